@@ -1,2 +1,2 @@
 mod Halving
-mod Merging
+pub mod Merging

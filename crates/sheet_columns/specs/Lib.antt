@@ -1,0 +1,2 @@
+pub mod ItemOrder
+pub mod Tree
