@@ -14,3 +14,6 @@ pub use page::{Names, Page, Part, Row, Rows, Shows};
 pub use parameters::Parameters;
 pub use sequence::Sequence;
 pub use tree::{Column, ColumnRefusal, Columns};
+
+#[cfg(test)]
+mod tests;
