@@ -1,14 +1,14 @@
 -- Ways down the tree, and what an added column leaves as it was.
-use Rattle.std.proofs.Common.{◌≡◌, ℕ, ◌+◌, ◌<◌, ◌≤◌, zero, suc, Bool, true, false, cond, List, [], ◌∷◌, ◌++◌, length, Option, Some, None, refl, sym, ap, ◌∙◌, subst, inl, inr, arith, length-append, eq-eqb}
-use Rattle.std.specs.Prelude.{◌⊎◌, ◌==◌, slice_get, bytes_eq, option_map, option_and_then, unwrap_or}
-use Rattle.std.specs.List.{position_from}
+use Rattle.std.proofs.Common.{◌≡◌, ℕ, ◌+◌, ◌<◌, ◌≤◌, zero, suc, Bool, true, false, cond, List, [], ◌∷◌, ◌++◌, length, Option, Some, None, refl, sym, ap, ◌∙◌, subst, inl, inr, arith, length-append, eq-eqb, ◌*◌, append_assoc}
+use Rattle.std.specs.Prelude.{codes, ◌⊎◌, ◌==◌, slice_get, bytes_eq, option_map, option_and_then, unwrap_or}
+use Rattle.std.specs.List.{position_from, join_with_byte}
 use Rattle.std.proofs.lemmas.Iterator.Adapters.{position_from-zero}
 use Rattle.std.proofs.lemmas.Option.{slice_get_within, option_and_then_some}
 use Rattle.std.proofs.lemmas.Bool.{cases_lt}
 use Rattle.std.proofs.lemmas.Slice.Eq.{bytes_eq-Decides}
 use Rattle.sheet_columns.specs.declared.tree.Column.TheVariants.{Object}
 use Rattle.sheet_columns.specs.declared.tree.Node.{Node}
-use Rattle.sheet_columns.specs.Tree.{root, column_of, is_child_named, child_named, going_down, depth, HasFittingFirst, IsUnder, IsTree}
+use Rattle.sheet_columns.specs.Tree.{root, column_of, is_child_named, child_named, going_down, depth, HasFittingFirst, IsUnder, IsTree, names_down_to, path}
 
 get_old : {A : Type 0} (xs ys : List A) (k : ℕ) → k < length xs → slice_get (xs ++ ys) k ≡ slice_get xs k
 get_old [] ys k lt = absurd (omega arith)
@@ -195,3 +195,68 @@ module _ (nodes : List Node) (tree : IsTree nodes) (x : Node) (above : ℕ) (is 
     fitting = each (λ (n : Node). HasFittingFirst n.column) tree.fitting fitting;
     distinct = distinct;
   }
+
+join_more : (xs : List (List ℕ)) (x y : List ℕ) → join_with_byte 46 ((x ∷ xs) ++ y ∷ []) ≡ join_with_byte 46 (x ∷ xs) ++ 46 ∷ y
+join_more [] x y = refl
+join_more (z ∷ xs) x y = ap (λ t. x ++ (46 ∷ t)) (join_more xs z y) ∙ sym (append_assoc x (46 ∷ join_with_byte 46 (z ∷ xs)) (46 ∷ y))
+
+-- one name more, after one at least
+join_push : (xs : List (List ℕ)) (x y : List ℕ) → join_with_byte 46 ((xs ++ x ∷ []) ++ y ∷ []) ≡ join_with_byte 46 (xs ++ x ∷ []) ++ 46 ∷ y
+join_push [] x y = join_more [] x y
+join_push (z ∷ xs) x y = join_more (xs ++ x ∷ []) z y
+
+join_long : (xs : List (List ℕ)) (y : List ℕ) → length y ≤ 63 → length (join_with_byte 46 (xs ++ y ∷ [])) ≤ length (join_with_byte 46 xs) + 64
+join_long [] y short = omega arith
+join_long (x ∷ xs) y short =
+    let e = ap length (join_more xs x y) ∙ length-append (join_with_byte 46 (x ∷ xs)) (46 ∷ y) in
+    omega arith
+
+joined_step : (names : ℕ → List (List ℕ)) (deep : ℕ → ℕ) (o : Option Node) → ((n : Node) → o ≡ Some n → length n.name ≤ 63) → ((a : ℕ) → length (join_with_byte 46 (names a)) ≤ 64 * deep a) → length (join_with_byte 46 (step [] (λ above (n : Node). above ++ n.name ∷ []) names o)) ≤ 64 * step 0 (λ d (n : Node). d + 1) deep o
+joined_step names deep None short so_far = omega arith
+joined_step names deep (Some n) short so_far =
+    elim n.above as (λ o. length (join_with_byte 46 (unwrap_or (option_map (λ a. names a ++ n.name ∷ []) o) [])) ≤ 64 * unwrap_or (option_map (λ a. deep a + 1) o) 0) [
+      | None ↦ omega arith
+      | Some a ↦ let more = join_long (names a) n.name (short n refl) in let before = so_far a in omega arith
+    ]
+
+-- the names on the way, joined, have at most 64 bytes for each column on the way
+joined_short : (nodes : List Node) → IsTree nodes → (f c : ℕ) → length (join_with_byte 46 (going_down [] (λ names (n : Node). names ++ n.name ∷ []) f nodes c)) ≤ 64 * going_down 0 (λ d (n : Node). d + 1) f nodes c
+joined_short nodes tree zero c = omega arith
+joined_short nodes tree (suc f) c = joined_step _ _ (slice_get nodes c) (tree.short c) (joined_short nodes tree f)
+
+pub path_short : (nodes : List Node) → IsTree nodes → (c : ℕ) → c < length nodes → length (path nodes c) ≤ 1000
+path_short nodes tree zero lt = omega arith
+path_short nodes tree (suc c) lt =
+    let long = joined_short nodes tree (suc c) (suc c) in
+    let few = tree.shallow (suc c) lt in
+    omega arith
+
+pub path_root : (nodes : List Node) → IsTree nodes → (c : ℕ) (n : Node) → slice_get nodes c ≡ Some n → n.above ≡ None → path nodes c ≡ codes "$"
+path_root nodes tree c n got is = let first : c ≡ 0 = subst (IsUnder nodes c) is (tree.placed c n got) in ap (path nodes) first
+
+pub path_top : (nodes : List Node) → IsTree nodes → (c : ℕ) (n : Node) → slice_get nodes c ≡ Some n → n.above ≡ Some 0 → path nodes c ≡ n.name
+path_top nodes tree zero n got is = let lt = (backward nodes tree).earlier 0 n 0 got is in absurd (omega arith)
+path_top nodes tree (suc c) n got is = ap (join_with_byte 46) (going_at [] (λ names (n : Node). names ++ n.name ∷ []) nodes (backward nodes tree) (suc c) n 0 got is)
+
+-- the names down to a column below the root end with its own
+names_at : (nodes : List Node) → IsTree nodes → (a : ℕ) → (column_of nodes (suc a) ≡ Some Object) → (front : List (List ℕ)) × (name : List ℕ) × (names_down_to nodes (suc a) ≡ front ++ name ∷ [])
+names_at nodes tree a object = at (slice_get nodes (suc a)) refl object
+  where
+    under : (m : Node) (o : Option ℕ) → slice_get nodes (suc a) ≡ Some m → m.above ≡ o → IsUnder nodes (suc a) o → (front : List (List ℕ)) × (name : List ℕ) × (names_down_to nodes (suc a) ≡ front ++ name ∷ [])
+    under m None got e u = absurd (omega arith)
+    under m (Some b) got e u =
+        (names_down_to nodes b, m.name, going_at [] (λ names (n : Node). names ++ n.name ∷ []) nodes (backward nodes tree) (suc a) m b got e)
+
+    at : (o : Option Node) → slice_get nodes (suc a) ≡ o → option_map (λ (n : Node). n.column) o ≡ Some Object → (front : List (List ℕ)) × (name : List ℕ) × (names_down_to nodes (suc a) ≡ front ++ name ∷ [])
+    at None got e = cc
+    at (Some m) got e = under m m.above got refl (tree.placed (suc a) m got)
+
+pub path_below : (nodes : List Node) → IsTree nodes → (c : ℕ) (n : Node) (a : ℕ) → slice_get nodes c ≡ Some n → n.above ≡ Some a → 0 < a → path nodes c ≡ path nodes a ++ 46 ∷ n.name
+path_below nodes tree zero n a got is positive = let lt = (backward nodes tree).earlier 0 n a got is in absurd (omega arith)
+path_below nodes tree (suc c) n zero got is positive = absurd (omega arith)
+path_below nodes tree (suc c) n (suc a) got is positive =
+    let object = (subst (IsUnder nodes (suc c)) is (tree.placed (suc c) n got)).1 in
+    let last = names_at nodes tree a object in
+    ap (join_with_byte 46) (going_at [] (λ names (n : Node). names ++ n.name ∷ []) nodes (backward nodes tree) (suc c) n (suc a) got is ∙ ap (λ ns. ns ++ n.name ∷ []) last.2)
+    ∙ join_push last.0 last.1 n.name
+    ∙ ap (λ ns. join_with_byte 46 ns ++ 46 ∷ n.name) (sym last.2)

@@ -1,5 +1,5 @@
 -- The tree of columns, as the list of its nodes: a column's number is its place in the list.
-use Rattle.std.specs.Prelude.{◌≡◌, ℕ, ◌+◌, ◌<◌, ◌≤◌, ◌==◌, ◌&&◌, zero, suc, Bool, false, List, [], ◌∷◌, ◌++◌, length, codes, slice_get, position, bytes_eq, Option, Some, None, option_map, option_and_then, unwrap_or, if◌then◌else◌}
+use Rattle.std.specs.Prelude.{◌≡◌, ℕ, ◌+◌, ◌<◌, ◌≤◌, ◌==◌, ◌&&◌, zero, suc, Bool, false, List, [], ◌∷◌, ◌++◌, length, codes, slice_get, position, bytes_eq, Option, Some, None, option_map, option_and_then, unwrap_or}
 use Rattle.std.specs.List.{join_with_byte}
 use Rattle.sheet_values.specs.declared.value.Kind.{Kind}
 use Rattle.sheet_values.specs.declared.value.Kind.TheVariants as kind
@@ -51,9 +51,10 @@ depth nodes c = going_down 0 (λ d n. d + 1) c nodes c
 abbrev pub names_down_to : List Node → ℕ → List (List ℕ)
 names_down_to nodes c = going_down [] (λ names n. names ++ n.name ∷ []) c nodes c
 
--- the names from below the root, joined by dots
+-- the names from below the root, joined by dots; the root's path is `$`
 abbrev pub path : List Node → ℕ → List ℕ
-path nodes c = if c == 0 then codes "$" else join_with_byte 46 (names_down_to nodes c)
+path nodes zero = codes "$"
+path nodes (suc c) = join_with_byte 46 (names_down_to nodes (suc c))
 
 -- a first value has the type of its column and is no object
 abbrev pub IsOfKind : Kind → Value → Type 0

@@ -20,3 +20,6 @@ pub use sequence::Sequence;
 pub use statement::{Action, Change, CoreStatement, Statements, Target};
 pub use tree::{Column, ColumnRefusal, Columns};
 pub use view::{CoreParts, CoreSlot, CoreSlots, CoreView};
+
+#[cfg(test)]
+mod tests;

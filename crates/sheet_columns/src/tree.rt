@@ -1,5 +1,5 @@
 // The tree of columns.
-ghost use Rattle.std.specs.Prelude.{◌≡◌, ◌<◌, ◌≤◌, ◌+◌, ◌↔◌, ◌++◌, ◌∷◌, [], length, Some, None, Err, IfOk, IfSome, OnOk, OnErr, ℕ, string_bytes, string_len};
+ghost use Rattle.std.specs.Prelude.{◌≡◌, ◌<◌, ◌≤◌, ◌+◌, ◌↔◌, ◌++◌, ◌∷◌, [], length, Some, None, Err, IfOk, IfSome, OnOk, OnErr, ℕ, string_bytes};
 ghost use Rattle.sheet_columns.specs.Tree.{root, column_of, name_of, above_of, is_child_named, child_named, depth, path, HasFittingFirst, IsTree};
 
 use sheet_values::{Kind, Name, NoMemory, Value};
@@ -186,6 +186,16 @@ impl Columns {
             None => None,
         }
     }
+
+    /// The names from below the root, joined by dots; `$` for the root.
+    pub fn path_text(&self, column: u32) -> Result<Name, NoMemory>
+        requires { column < length self.now }
+        ensures { IfOk result (λ text. text ≡ path self.now column) }
+    {
+        let alloc = *self.nodes.allocator();
+        let text = path_of(alloc, self.nodes.as_slice(), column as usize)?;
+        Name::of(alloc, text.as_str())
+    }
 }
 
 fn place_of_child(nodes: &[Node], above: u32, name: &[u8]) -> Option<usize>
@@ -207,5 +217,26 @@ fn depth_of(nodes: &[Node], column: usize) -> u32
     match node.above {
         Some(above) => depth_of(nodes, above as usize) + 1,
         None => 0,
+    }
+}
+
+// The column's path, from that of the column above.
+fn path_of(alloc: Global, nodes: &[Node], column: usize) -> Result<String, NoMemory>
+    requires tree { IsTree nodes.now }
+    requires counted { column < length nodes.now }
+    ensures { IfOk result (λ text. string_bytes text ≡ path nodes.now column) }
+{
+    let node = &nodes[column];
+    match node.above {
+        None => Ok(String::from_str(alloc, "$")?),
+        Some(above) => {
+            if above == 0 {
+                return Ok(String::from_str(alloc, node.name.text())?);
+            }
+            let mut text = path_of(alloc, nodes, above as usize)?;
+            text.push_str(".")?;
+            text.push_str(node.name.text())?;
+            Ok(text)
+        }
     }
 }

@@ -1,0 +1,4 @@
+use Rattle.sheet_columns.proofs.tree.+path_of.Given as goal
+
+abbrev pub decreases-path_of : goal.decreases-path_of
+decreases-path_of l = l.column
