@@ -1,2 +1,3 @@
 pub mod ItemOrder
+pub mod Statements
 pub mod Tree

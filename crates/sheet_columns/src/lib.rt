@@ -1,16 +1,22 @@
-//! The tree of columns, and the plain data that several crates share.
+//! The tree of columns, formulas, statements and views after names are resolved, and the plain data that several crates share.
 #![tactic(auto)]
 
 mod fault;
+mod formula;
 mod item;
 mod page;
 mod parameters;
 mod sequence;
+mod statement;
 mod tree;
+mod view;
 
 pub use fault::{Fault, Place};
+pub use formula::{ArithmeticOperator, Connective, Core, Extremum, OrderTest, Quantifier, SetOperator, SetTest};
 pub use item::{Item, Items};
 pub use page::{Names, Page, Part, Row, Rows, Shows};
 pub use parameters::Parameters;
 pub use sequence::Sequence;
+pub use statement::{Action, Change, CoreStatement, Statements, Target};
 pub use tree::{Column, ColumnRefusal, Columns};
+pub use view::{CoreParts, CoreSlot, CoreSlots, CoreView};
