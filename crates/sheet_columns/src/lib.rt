@@ -1,4 +1,4 @@
-//! The tree of columns, formulas after names are resolved, and the plain data that several crates share.
+//! The tree of columns, formulas, statements and views after names are resolved, and the plain data that several crates share.
 #![tactic(auto)]
 
 mod fault;

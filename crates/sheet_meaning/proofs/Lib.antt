@@ -1,0 +1,5 @@
+pub mod Relation
+pub mod Uses
+pub mod Below
+pub mod Tracks
+pub mod Settling

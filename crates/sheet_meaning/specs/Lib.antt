@@ -1,0 +1,5 @@
+pub mod Run
+pub mod Formula
+pub mod Workbook
+pub mod Rounds
+pub mod Reads

@@ -1,0 +1,102 @@
+-- A workbook, as lists.
+use Rattle.std.specs.Prelude.{ℕ, Bool, true, false, ◌&&◌, ◌==◌, List, [], ◌∷◌, map, filter, if◌then◌else◌, Option, Some, None}
+use Rattle.std.specs.List.{flat_map, filter_map}
+use Rattle.sheet_values.specs.declared.value.Value.{Value}
+use Rattle.sheet_values.specs.declared.value.Value.TheVariants.{Object}
+use Rattle.sheet_columns.specs.declared.formula.Core.{Core}
+use Rattle.sheet_columns.specs.declared.tree.Node.{Node}
+use Rattle.sheet_columns.specs.Tree.{above_of, is_number}
+use Rattle.sheet_meaning.specs.Run.{Outcome}
+use Rattle.sheet_meaning.specs.Formula.{World}
+
+-- the formula of a formula column
+pub record ColumnFormula : Type 0 where
+  pub column : ℕ
+  pub core : Core
+
+-- the columns, in the order of their numbers, and the formulas of the formula columns
+pub record Schema : Type 0 where
+  pub columns : List Node
+  pub formulas : List ColumnFormula
+
+-- a live object: its number, its column, and its parent, which the root lacks
+pub record LiveObject : Type 0 where
+  pub number : ℕ
+  pub column : ℕ
+  pub parent : Option ℕ
+
+-- a state cell and its set
+pub record StoredCell : Type 0 where
+  pub object : ℕ
+  pub column : ℕ
+  pub set : List Value
+
+-- what changes of a workbook: the live objects by number, the state cells by object and column, and the next object number
+pub record State : Type 0 where
+  pub objects : List LiveObject
+  pub cells : List StoredCell
+  pub next : ℕ
+
+pub record Workbook : Type 0 where
+  pub schema : Schema
+  pub state : State
+
+-- the live object with a number
+abbrev pub object_at : List LiveObject → ℕ → Option LiveObject
+object_at [] o = None
+object_at (x ∷ xs) o = if x.number == o then Some x else object_at xs o
+
+-- the column of a live object
+abbrev pub column_in : Option LiveObject → Option ℕ
+column_in None = None
+column_in (Some x) = Some x.column
+
+-- the parent of a live object
+abbrev pub parent_in : Option LiveObject → Option ℕ
+parent_in None = None
+parent_in (Some x) = x.parent
+
+abbrev pub is_live : List LiveObject → ℕ → Bool
+is_live [] o = false
+is_live (x ∷ xs) o = if x.number == o then true else is_live xs o
+
+abbrev pub is_child : ℕ → ℕ → LiveObject → Bool
+is_child o c x = x.column == c && is_number o x.parent
+
+-- the objects of a column whose parent is an object
+abbrev pub children_in : List LiveObject → ℕ → ℕ → List Value
+children_in xs o c = map (λ (x : LiveObject). Object x.number) (filter (is_child o c) xs)
+
+-- what a state cell holds, and nothing where there is no such cell
+abbrev pub set_in : List StoredCell → ℕ → ℕ → List Value
+set_in [] o c = []
+set_in (x ∷ xs) o c = if x.object == o && x.column == c then x.set else set_in xs o c
+
+-- a formula cell and its formula
+pub record FormulaCell : Type 0 where
+  pub object : ℕ
+  pub column : ℕ
+  pub core : Core
+
+-- the formula cell of an object in a formula column, where the column stands directly under the object's
+abbrev pub formula_cell : Schema → LiveObject → ColumnFormula → Option FormulaCell
+formula_cell s x f =
+    if is_number x.column (above_of s.columns f.column) then Some (record { object = x.number; column = f.column; core = f.core }) else None
+
+-- the formula cells of an object
+abbrev pub cells_of : Schema → LiveObject → List FormulaCell
+cells_of s x = filter_map (formula_cell s x) s.formulas
+
+-- the formula cells of the live objects
+abbrev pub formula_cells : Workbook → List FormulaCell
+formula_cells w = flat_map (cells_of w.schema) w.state.objects
+
+-- the content that expressions are worked out from, where formula cells have these outcomes
+abbrev pub world : Workbook → (ℕ → ℕ → Outcome (List Value)) → World
+world w worked = record {
+  cell = set_in w.state.cells;
+  children = children_in w.state.objects;
+  parent = λ o. parent_in (object_at w.state.objects o);
+  live = is_live w.state.objects;
+  worked = worked;
+}

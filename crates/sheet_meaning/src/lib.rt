@@ -1,0 +1,26 @@
+//! What formulas, statements and views mean.
+#![tactic(auto)]
+
+ghost use Rattle.sheet_meaning.specs.Reads.{UsesSuffice};
+ghost use Rattle.sheet_meaning.specs.Rounds.{RoundsEnd, CyclesAreFinal};
+
+mod used;
+
+pub use used::Use;
+
+/// After as many rounds as there are formula cells, no round changes the table of outcomes.
+pub fn rounds_end()
+    ensures { RoundsEnd }
+{}
+
+/// A formula cell is a cycle exactly where no round gives it an outcome. Any other meaning is its
+/// outcome in all tables from some round on.
+pub fn cycles_are_final()
+    ensures { CyclesAreFinal }
+{}
+
+/// What an expression comes to depends on the items and formula cells that it uses, and on nothing
+/// else.
+pub fn uses_suffice()
+    ensures { UsesSuffice }
+{}
