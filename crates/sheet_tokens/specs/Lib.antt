@@ -1,0 +1,7 @@
+pub mod Bytes
+pub mod Gives
+pub mod Lexing
+pub mod Runs
+pub mod TokenList
+pub mod Tokens
+pub mod Words
