@@ -10,7 +10,7 @@ use Rattle.sheet_columns.specs.declared.formula.Core.{Core}
 use Rattle.sheet_meaning.specs.Run.{Outcome, none, is_none, Run, given, done, after, run_after, both_outcomes, finish, and_then, both, decides, second_after_fault, second_truth, connect}
 use Rattle.sheet_meaning.specs.Formula.{Variables, run}
 use Rattle.sheet_meaning.specs.Workbook.{Workbook, world}
-use Rattle.sheet_meaning.proofs.Uses.{Within, within_itself, nothing_within, within_append}
+use Rattle.sheet_meaning.proofs.Members.{Within, within_itself, nothing_within, within_append}
 use Rattle.sheet_meaning.proofs.Relation.{IsKept, HoldsAtReads, related}
 
 -- an outcome that is there stays

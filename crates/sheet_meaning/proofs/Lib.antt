@@ -1,5 +1,7 @@
+pub mod Members
+pub mod Cells
 pub mod Relation
-pub mod Uses
 pub mod Below
 pub mod Tracks
 pub mod Settling
+pub mod Reaching

@@ -1,5 +1,5 @@
 -- A workbook, as lists.
-use Rattle.std.specs.Prelude.{ℕ, Bool, true, false, ◌&&◌, ◌==◌, List, [], ◌∷◌, map, filter, if◌then◌else◌, Option, Some, None}
+use Rattle.std.specs.Prelude.{ℕ, Bool, true, false, ◌&&◌, ◌==◌, List, [], ◌∷◌, map, filter, if◌then◌else◌, Option, Some, None, is_some}
 use Rattle.std.specs.List.{flat_map, filter_map}
 use Rattle.sheet_values.specs.declared.value.Value.{Value}
 use Rattle.sheet_values.specs.declared.value.Value.TheVariants.{Object}
@@ -46,19 +46,15 @@ abbrev pub object_at : List LiveObject → ℕ → Option LiveObject
 object_at [] o = None
 object_at (x ∷ xs) o = if x.number == o then Some x else object_at xs o
 
--- the column of a live object
+-- the column of an object, and nothing where it isn't live
 abbrev pub column_in : Option LiveObject → Option ℕ
 column_in None = None
 column_in (Some x) = Some x.column
 
--- the parent of a live object
+-- its parent, and nothing for the root and where it isn't live
 abbrev pub parent_in : Option LiveObject → Option ℕ
 parent_in None = None
 parent_in (Some x) = x.parent
-
-abbrev pub is_live : List LiveObject → ℕ → Bool
-is_live [] o = false
-is_live (x ∷ xs) o = if x.number == o then true else is_live xs o
 
 abbrev pub is_child : ℕ → ℕ → LiveObject → Bool
 is_child o c x = x.column == c && is_number o x.parent
@@ -78,18 +74,18 @@ pub record FormulaCell : Type 0 where
   pub column : ℕ
   pub core : Core
 
--- the formula cell of an object in a formula column, where the column stands directly under the object's
-abbrev pub formula_cell : Schema → LiveObject → ColumnFormula → Option FormulaCell
-formula_cell s x f =
-    if is_number x.column (above_of s.columns f.column) then Some (record { object = x.number; column = f.column; core = f.core }) else None
+-- the formula cell of an object, of this column, in a formula column, which must stand directly under the object's column
+abbrev pub formula_cell : Schema → ℕ → ℕ → ColumnFormula → Option FormulaCell
+formula_cell s o c f =
+    if is_number c (above_of s.columns f.column) then Some (record { object = o; column = f.column; core = f.core }) else None
 
--- the formula cells of an object
-abbrev pub cells_of : Schema → LiveObject → List FormulaCell
-cells_of s x = filter_map (formula_cell s x) s.formulas
+-- the formula cells of an object of this column
+abbrev pub cells_of : Schema → ℕ → ℕ → List FormulaCell
+cells_of s o c = filter_map (formula_cell s o c) s.formulas
 
 -- the formula cells of the live objects
 abbrev pub formula_cells : Workbook → List FormulaCell
-formula_cells w = flat_map (cells_of w.schema) w.state.objects
+formula_cells w = flat_map (λ (x : LiveObject). cells_of w.schema x.number x.column) w.state.objects
 
 -- the content that expressions are worked out from, where formula cells have these outcomes
 abbrev pub world : Workbook → (ℕ → ℕ → Outcome (List Value)) → World
@@ -97,6 +93,6 @@ world w worked = record {
   cell = set_in w.state.cells;
   children = children_in w.state.objects;
   parent = λ o. parent_in (object_at w.state.objects o);
-  live = is_live w.state.objects;
+  live = λ o. is_some (column_in (object_at w.state.objects o));
   worked = worked;
 }

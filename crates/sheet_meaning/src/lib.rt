@@ -3,6 +3,7 @@
 
 ghost use Rattle.sheet_meaning.specs.Reads.{UsesSuffice};
 ghost use Rattle.sheet_meaning.specs.Rounds.{RoundsEnd, CyclesAreFinal};
+ghost use Rattle.sheet_meaning.specs.Support.{ReachedIsAll};
 
 mod used;
 
@@ -23,4 +24,10 @@ pub fn cycles_are_final()
 /// else.
 pub fn uses_suffice()
     ensures { UsesSuffice }
+{}
+
+/// The list of the formula cells that are reached from some holds exactly these cells, the formula
+/// cells that they read directly, and so on.
+pub fn reached_is_all()
+    ensures { ReachedIsAll }
 {}
