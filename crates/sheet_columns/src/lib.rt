@@ -12,7 +12,9 @@ mod tree;
 mod view;
 
 pub use fault::{Fault, Place};
-pub use formula::{ArithmeticOperator, Connective, Core, Extremum, OrderTest, Quantifier, SetOperator, SetTest};
+pub use formula::{
+    ArithmeticOperator, Connective, Core, Extremum, OrderTest, Quantifier, SetOperator, SetTest,
+};
 pub use item::{Item, Items};
 pub use page::{Names, Page, Part, Row, Rows, Shows};
 pub use parameters::Parameters;

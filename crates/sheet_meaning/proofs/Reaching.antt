@@ -53,9 +53,9 @@ module _ (p q : FormulaCell → Bool) (grows : (f : FormulaCell) → Grows (p f)
   back_or_more (f ∷ fs) =
       ⊎_elim
       (λ back. ⊎_elim
-        (λ here. inl (record { each = λ g h e. ⊎_elim (λ same. subst (λ x. p x ≡ true) (sym same) (here (subst (λ x. q x ≡ true) same e))) (λ k. back.each g k e) h }))
-        (λ lt. inr lt)
-        (same_so_far (count p fs) (count q fs) (p f) (q f) (grows f) (count_le_count fs)))
+      (λ here. inl (record { each = λ g h e. ⊎_elim (λ same. subst (λ x. p x ≡ true) (sym same) (here (subst (λ x. q x ≡ true) same e))) (λ k. back.each g k e) h }))
+      (λ lt. inr lt)
+      (same_so_far (count p fs) (count q fs) (p f) (q f) (grows f) (count_le_count fs)))
       (λ lt. inr (one_more (count p fs) (count q fs) (p f) (q f) (grows f) lt))
       (back_or_more fs)
 
@@ -93,11 +93,11 @@ module _ (w : Workbook) where
           elim (cell_at (formula_cells w) x) as (λ o. cell_at (formula_cells w) x ≡ o → IsIn y (filter_map cell_in (uses_of w o)) → IsIn y (cells (suc k))) [
             | None ↦ λ e n. absurd n
             | Some f ↦ λ e u.
-              let found = found_in (formula_cells w) x f e in
-              let same : (f.object, f.column) ≡ x = same_cell (f.object, f.column) x found.1 in
-              let there : has_cell (cells (suc k)) (f.object, f.column) ≡ true = subst (λ z. has_cell (cells (suc k)) z ≡ true) (sym same) (in_has (cells (suc k)) x h) in
-              let before : IsIn x (cells k) = subst (λ z. IsIn z (cells k)) same (has_in (cells k) (f.object, f.column) (back.each f found.0 there)) in
-              next k x y before r
+                let found = found_in (formula_cells w) x f e in
+                let same : (f.object, f.column) ≡ x = same_cell (f.object, f.column) x found.1 in
+                let there : has_cell (cells (suc k)) (f.object, f.column) ≡ true = subst (λ z. has_cell (cells (suc k)) z ≡ true) (sym same) (in_has (cells (suc k)) x h) in
+                let before : IsIn x (cells k) = subst (λ z. IsIn z (cells k)) same (has_in (cells k) (f.object, f.column) (back.each f found.0 there)) in
+                next k x y before r
           ] refl r;
     }
 
@@ -128,8 +128,8 @@ module _ (w : Workbook) where
         ⊎_elim
         (sound k x)
         (λ b.
-          let f = from_flat_map (cells_read w) (spread w k (with_cells [] from)) x b in
-          Reaches.through f.0 x (sound k f.0 f.1) (in_has (cells_read w f.0) x f.2))
+        let f = from_flat_map (cells_read w) (spread w k (with_cells [] from)) x b in
+        Reaches.through f.0 x (sound k f.0 f.1) (in_has (cells_read w f.0) x f.2))
         (from_cells (spread w k (with_cells [] from)) (flat_map (cells_read w) (spread w k (with_cells [] from))) x h)
 
     complete : (x : Cell) → Reaches w from x → IsIn x (reached_from w from)
