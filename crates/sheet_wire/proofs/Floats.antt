@@ -1,5 +1,5 @@
 -- No reply has a float.
-use Rattle.std.proofs.Common.{◌≡◌, List, [], ◌∷◌, map, Bool, false, refl, ℕ, ℤ, pos, negsuc, Result, Ok, Err}
+use Rattle.std.proofs.Common.{◌≡◌, List, [], ◌∷◌, map, false, refl, ℤ, pos, negsuc, Result, Ok, Err}
 use Rattle.serde_json.specs.Data.{Data, string}
 use Rattle.serde_json.specs.Find.{of_integer, is_float}
 use Rattle.serde_json.specs.View.{items_of}
@@ -18,7 +18,7 @@ use Rattle.sheet_wire.specs.declared.reply.Reply.{Reply}
 use Rattle.sheet_wire.specs.declared.reply.Reply.TheVariants.{Accepted, Page, Wire, Refused}
 use Rattle.sheet_wire.specs.declared.reply.Answer.TheVariants.{Values}
 use Rattle.sheet_wire.specs.declared.reply.Refusal.TheVariants as refused
-use Rattle.sheet_wire.specs.Replies.{list_data, value_data, place_data, fault_data, shown_data, row_data, rows_data, part_data, reply_data}
+use Rattle.sheet_wire.specs.Replies.{value_data, place_data, fault_data, shown_data, row_data, rows_data, part_data, reply_data}
 
 -- a list has none where its elements have none
 all : {A : Type 0} (data_of : A → Data) → ((x : A) → has_float (data_of x) ≡ false) → (xs : List A) → items_have_float (items_of (map data_of xs)) ≡ false

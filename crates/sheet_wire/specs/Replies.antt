@@ -19,9 +19,7 @@ use Rattle.sheet_columns.specs.declared.page.Part.TheVariants.{Show, Table}
 use Rattle.sheet_columns.specs.declared.page.Row.{Row}
 use Rattle.sheet_wire.specs.declared.reply.Reply.{Reply}
 use Rattle.sheet_wire.specs.declared.reply.Reply.TheVariants.{Accepted, Page, Wire, Refused}
-use Rattle.sheet_wire.specs.declared.reply.Answer.{Answer}
 use Rattle.sheet_wire.specs.declared.reply.Answer.TheVariants.{Values}
-use Rattle.sheet_wire.specs.declared.reply.Refusal.{Refusal}
 use Rattle.sheet_wire.specs.declared.reply.Refusal.TheVariants as refused
 use Rattle.sheet_wire.specs.declared.request.WireRefusal.{WireRefusal}
 use Rattle.sheet_wire.specs.declared.request.WireRefusal.TheVariants as wire

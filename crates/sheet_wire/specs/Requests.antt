@@ -1,11 +1,10 @@
 -- What the bytes of a request say.
-use Rattle.std.specs.Prelude.{◌≡◌, ℕ, ◌==◌, ◌^◌, ◌&&◌, nat_lt, nat_le, List, [], ◌∷◌, length, codes, Option, Some, None, option_map, option_and_then, if◌then◌else◌, Bool, Result, Ok, Err, IsUtf8}
+use Rattle.std.specs.Prelude.{◌≡◌, ℕ, ◌==◌, ◌&&◌, nat_lt, nat_le, List, [], ◌∷◌, length, codes, Option, Some, None, option_map, option_and_then, if◌then◌else◌, Bool, Result, Ok, Err, IsUtf8}
 use Rattle.std.specs.List.{list_all}
-use Rattle.serde_json.specs.Data.{Data, Items, item, no_items, Members, object, null, boolean, number, string, array}
+use Rattle.serde_json.specs.Data.{Data, Items, item, no_items, object, null, boolean, number, string, array}
 use Rattle.serde_json.specs.Read.{read}
 use Rattle.serde_json.specs.Events.{members_len}
 use Rattle.serde_json.specs.Find.{get, as_str, as_array, as_number, as_i64, as_u64}
-use Rattle.sheet_values.specs.declared.NoMemory.{NoMemory}
 use Rattle.sheet_values.specs.declared.value.Value.{Value}
 use Rattle.sheet_values.specs.declared.value.Value.TheVariants.{Number}
 use Rattle.sheet_wire.specs.declared.request.Request.{Request}
