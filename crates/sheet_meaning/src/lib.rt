@@ -5,8 +5,10 @@ ghost use Rattle.sheet_meaning.specs.Reads.{UsesSuffice};
 ghost use Rattle.sheet_meaning.specs.Rounds.{RoundsEnd, CyclesAreFinal};
 ghost use Rattle.sheet_meaning.specs.Support.{ReachedIsAll};
 
+mod refusal;
 mod used;
 
+pub use refusal::{Refusal, Which};
 pub use used::Use;
 
 /// After as many rounds as there are formula cells, no round changes the table of outcomes.
