@@ -14,11 +14,11 @@ use Rattle.sheet_meaning.specs.Reads.{Agree, UsesSuffice}
 use Rattle.sheet_meaning.proofs.Relation.{IsKept, HoldsAtReads, related}
 
 module _ (w u : World) where
-  front_agrees : (xs ys : List Use) → Agree w u (xs ++ ys) → Agree w u xs
+  pub front_agrees : (xs ys : List Use) → Agree w u (xs ++ ys) → Agree w u xs
   front_agrees [] ys h = tt
   front_agrees (x ∷ xs) ys h = (h.0, front_agrees xs ys h.1)
 
-  back_agrees : (xs ys : List Use) → Agree w u (xs ++ ys) → Agree w u ys
+  pub back_agrees : (xs ys : List Use) → Agree w u (xs ++ ys) → Agree w u ys
   back_agrees [] ys h = h
   back_agrees (x ∷ xs) ys h = back_agrees xs ys h.1
 

@@ -6,7 +6,7 @@ use Rattle.sheet_values.specs.declared.value.Value.TheVariants.{Truth, Number, T
 use Rattle.sheet_values.specs.Sets.{union, minus}
 use Rattle.sheet_columns.specs.declared.statement.Change.{Change}
 use Rattle.sheet_columns.specs.declared.statement.Change.TheVariants.{Set, Add, Remove}
-use Rattle.sheet_meaning.specs.Workbook.{Schema, LiveObject, StoredCell, State, set_in}
+use Rattle.sheet_meaning.specs.Workbook.{Schema, LiveObject, StoredCell, State}
 use Rattle.sheet_meaning.specs.WellFormed.{StateColumn, state_columns}
 
 -- what a state cell holds after `set`, `add` or `remove`

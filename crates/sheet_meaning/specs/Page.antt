@@ -1,5 +1,5 @@
 -- The page of a view, for a caller and arguments, and what it rests on.
-use Rattle.std.specs.Prelude.{◌≡◌, ◌++◌, true, ℕ, Bool, if◌then◌else◌, List, [], ◌∷◌, map, Result, Ok, Err}
+use Rattle.std.specs.Prelude.{◌≡◌, ◌++◌, true, ℕ, Bool, if◌then◌else◌, List, [], map, Result, Ok, Err}
 use Rattle.std.specs.List.{flat_map, filter_map}
 use Rattle.sheet_values.specs.declared.value.Value.{Value}
 use Rattle.sheet_values.specs.Sorted.{contains}
@@ -18,7 +18,7 @@ use Rattle.sheet_meaning.specs.declared.used.Use.{Use}
 use Rattle.sheet_meaning.specs.declared.used.Use.TheVariants.{Read}
 use Rattle.sheet_meaning.specs.declared.refusal.Refusal.{Refusal}
 use Rattle.sheet_meaning.specs.declared.refusal.Refusal.TheVariants.{Denied, FormulaFault}
-use Rattle.sheet_meaning.specs.Run.{Outcome, Run, after, finish}
+use Rattle.sheet_meaning.specs.Run.{Outcome, Run, after}
 use Rattle.sheet_meaning.specs.Formula.{Variables, bind, object_in, truth}
 use Rattle.sheet_meaning.specs.Workbook.{Workbook}
 use Rattle.sheet_meaning.specs.WellFormed.{IsWellFormed}
@@ -81,7 +81,7 @@ argument_uses arguments = map (λ o. Read (Live o)) (filter_map object_in argume
 abbrev pub view_uses : Workbook → Core → List CoreView → Caller → List Value → List Use
 view_uses w allow views caller arguments =
     let v = first_variables caller arguments in
-    (allow_run w allow v).uses ++ flat_map (part_uses w v) views ++ argument_uses arguments
+    (allow_run w allow v).uses ++ (flat_map (part_uses w v) views ++ argument_uses arguments)
 
 -- the support of a view
 abbrev pub view_support : Workbook → Core → List CoreView → Caller → List Value → List Item

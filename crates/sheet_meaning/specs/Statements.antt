@@ -1,5 +1,5 @@
 -- What statements do.
-use Rattle.std.specs.Prelude.{ℕ, ◌+◌, nat_lt, Bool, true, false, if◌then◌else◌, List, [], ◌∷◌, ◌++◌, length, fold, sum_by, Option, Some, None, is_some, Result, Ok, Err}
+use Rattle.std.specs.Prelude.{ℕ, ◌+◌, nat_lt, Bool, true, if◌then◌else◌, List, [], ◌∷◌, ◌++◌, length, fold, sum_by, is_some, Result, Ok, Err}
 use Rattle.std.specs.List.{filter_map}
 use Rattle.sheet_values.specs.declared.value.Value.{Value}
 use Rattle.sheet_values.specs.declared.value.Value.TheVariants as value
@@ -8,11 +8,10 @@ use Rattle.sheet_columns.specs.declared.formula.Core.{Core}
 use Rattle.sheet_columns.specs.declared.statement.Target.{Target}
 use Rattle.sheet_columns.specs.declared.statement.CoreStatement.{CoreStatement, Let, Change, New, Delete, Check, If', For', Reply, Row_of-CoreStatement, end_of-CoreStatement as end, more_of-CoreStatement as more}
 use Rattle.sheet_columns.specs.declared.statement.Change.{Change as TheChange}
-use Rattle.sheet_meaning.specs.declared.used.Use.{Use}
 use Rattle.sheet_meaning.specs.declared.refusal.Which.{Which}
 use Rattle.sheet_meaning.specs.declared.refusal.Which.TheVariants as which
 use Rattle.sheet_meaning.specs.declared.refusal.Refusal.{Refusal}
-use Rattle.sheet_meaning.specs.declared.refusal.Refusal.TheVariants.{Denied, CheckFailed, FormulaFault, Full, NotOneCell}
+use Rattle.sheet_meaning.specs.declared.refusal.Refusal.TheVariants.{CheckFailed, FormulaFault, Full}
 use Rattle.sheet_meaning.specs.Run.{Outcome, Run, finish, both, the_one}
 use Rattle.sheet_meaning.specs.Formula.{Variables, object_in, truth}
 use Rattle.sheet_meaning.specs.Workbook.{Schema, State, Workbook, object_at, set_in}
@@ -84,10 +83,10 @@ make s c parent p =
     let t = with_object s p.state c parent in
     within
     ((which.Objects, length t.objects, max_objects)
-      ∷ (which.Cells, cell_count (workbook s t), max_cells)
-      ∷ (which.Values, stored_values t.cells, max_values)
-      ∷ (which.Numbers, p.state.next, max_number)
-      ∷ [])
+    ∷ (which.Cells, cell_count (workbook s t), max_cells)
+    ∷ (which.Values, stored_values t.cells, max_values)
+    ∷ (which.Numbers, p.state.next, max_number)
+    ∷ [])
     (Ok (with_variable (with_state s p t) (value.Object p.state.next ∷ [])))
 
 -- `delete`, for one object, where it is still live

@@ -1,7 +1,7 @@
 -- The formula cells that are reached from what is used, and the support: the items that it rests on.
-use Rattle.std.specs.Prelude.{◌≡◌, ◌↔◌, IsTrue, true, false, ℕ, zero, suc, ◌+◌, Bool, ◌==◌, ◌&&◌, if◌then◌else◌, List, [], ◌∷◌, ◌++◌, fold, Option, Some, None}
+use Rattle.std.specs.Prelude.{◌≡◌, ◌↔◌, true, ℕ, zero, suc, Bool, ◌==◌, ◌&&◌, if◌then◌else◌, List, [], ◌∷◌, ◌++◌, fold, Option, Some, None}
 use Rattle.std.specs.List.{list_any, flat_map, filter_map}
-use Rattle.sheet_values.specs.Sorted.{insert, contains}
+use Rattle.sheet_values.specs.Sorted.{insert}
 use Rattle.sheet_columns.specs.ItemOrder.{item_cmp}
 use Rattle.sheet_columns.specs.declared.item.Item.{Item}
 use Rattle.sheet_columns.specs.declared.item.Item.TheVariants.{Live}

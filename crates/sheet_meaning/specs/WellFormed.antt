@@ -1,5 +1,5 @@
 -- What a workbook keeps: its well-formedness, and that its `one` cells are filled.
-use Rattle.std.specs.Prelude.{◌≡◌, ℕ, ◌+◌, ◌<◌, ◌≤◌, ◌==◌, not, Bool, true, false, if◌then◌else◌, List, [], ◌∷◌, length, map, filter, find, sum_by, Option, Some, None}
+use Rattle.std.specs.Prelude.{◌≡◌, ℕ, ◌+◌, ◌<◌, ◌≤◌, ◌==◌, not, Bool, if◌then◌else◌, List, length, map, filter, find, sum_by, Option, Some, None}
 use Rattle.std.specs.List.{filter_map, flat_map, enumerate_from, AllByRecursion}
 use Rattle.std.specs.Ordering.{nat_cmp, on}
 use Rattle.sheet_values.specs.declared.value.Kind.{Kind}
