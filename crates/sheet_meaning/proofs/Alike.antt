@@ -8,11 +8,11 @@ use Rattle.sheet_values.specs.Sorted.{IsRising}
 use Rattle.sheet_columns.specs.declared.item.Item.{Item}
 use Rattle.sheet_columns.specs.declared.item.Item.TheVariants.{Live, Up, Extent, Stored}
 use Rattle.sheet_columns.specs.declared.fault.Place.TheVariants as place
-use Rattle.sheet_meaning.specs.declared.used.Use.{Use}
-use Rattle.sheet_meaning.specs.declared.used.Use.TheVariants as used
+use Rattle.sheet_meaning.specs.declared.run.Use.{Use}
+use Rattle.sheet_meaning.specs.declared.run.Use.TheVariants as used
 use Rattle.sheet_meaning.specs.Run.{Outcome, none}
 use Rattle.sheet_meaning.specs.Formula.{World}
-use Rattle.sheet_meaning.specs.Workbook.{Workbook, FormulaCell, object_at, column_in, formula_cells, world}
+use Rattle.sheet_meaning.specs.Workbook.{FormulaCell, object_at, column_in, formula_cells, world}
 use Rattle.sheet_meaning.specs.Rounds.{outcome_in, world_at, run_cell, table, outcome_after, meaning, rounds, settled_world, item_in, cell_in}
 use Rattle.sheet_meaning.specs.Reads.{AgreeAt, Agree}
 use Rattle.sheet_meaning.specs.Items.{Content, Column, Parent, Members, content}
@@ -23,6 +23,7 @@ use Rattle.sheet_meaning.proofs.Below.{IsBelow, run_below}
 use Rattle.sheet_meaning.proofs.Tracks.{uses_suffice}
 use Rattle.sheet_meaning.proofs.Settling.{outcome_below, grows, later_same}
 use Rattle.sheet_meaning.proofs.FormulaCells.{object_cmp, cell_by_column, found_by_column}
+use Rattle.sheet_meaning.specs.declared.workbook.Workbook.{Workbook}
 
 column_part : Content → Option ℕ
 column_part (Column c) = c

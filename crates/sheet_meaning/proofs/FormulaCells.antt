@@ -9,8 +9,11 @@ use Rattle.std.specs.Cmp.{IsTotalOrder, nat_cmp_total}
 use Rattle.std.proofs.lemmas.Bool.{eqb-true, eqb-false}
 use Rattle.sheet_values.specs.Sorted.{IsBelow, IsRising}
 use Rattle.sheet_columns.specs.Tree.{above_of, is_number}
-use Rattle.sheet_meaning.specs.Workbook.{Schema, ColumnFormula, LiveObject, FormulaCell, object_at, column_in, formula_cell, cells_of}
+use Rattle.sheet_meaning.specs.Workbook.{FormulaCell, object_at, column_in, formula_cell, cells_of}
 use Rattle.sheet_meaning.specs.Support.{Cell, cell_at}
+use Rattle.sheet_meaning.specs.declared.workbook.Schema.{Schema}
+use Rattle.sheet_meaning.specs.declared.workbook.ColumnFormula.{ColumnFormula}
+use Rattle.sheet_meaning.specs.declared.workbook.LiveObject.{LiveObject}
 
 -- by number
 abbrev pub object_cmp : LiveObject → LiveObject → Ordering

@@ -13,11 +13,11 @@ use Rattle.sheet_columns.specs.declared.view.CoreSlot.{CoreSlot}
 use Rattle.sheet_columns.specs.declared.view.CoreView.{CoreView}
 use Rattle.sheet_columns.specs.declared.view.CoreView.TheVariants as view
 use Rattle.sheet_columns.specs.declared.page.Part.TheVariants as part
-use Rattle.sheet_meaning.specs.declared.used.Use.{Use}
-use Rattle.sheet_meaning.specs.declared.used.Use.TheVariants as used
+use Rattle.sheet_meaning.specs.declared.run.Use.{Use}
+use Rattle.sheet_meaning.specs.declared.run.Use.TheVariants as used
 use Rattle.sheet_meaning.specs.Run.{Outcome, after}
 use Rattle.sheet_meaning.specs.Formula.{Variables, bind, truth}
-use Rattle.sheet_meaning.specs.Workbook.{Workbook, formula_cells}
+use Rattle.sheet_meaning.specs.Workbook.{formula_cells}
 use Rattle.sheet_meaning.specs.WellFormed.{IsWellFormed}
 use Rattle.sheet_meaning.specs.Rounds.{outcome_in, table, rounds, settled_world, settled_run, item_in, cell_in}
 use Rattle.sheet_meaning.specs.Reads.{AgreeAt, Agree}
@@ -31,6 +31,7 @@ use Rattle.sheet_meaning.proofs.Tracks.{front_agrees, back_agrees, uses_suffice}
 use Rattle.sheet_meaning.proofs.Reaching.{complete}
 use Rattle.sheet_meaning.proofs.Ordered.{ordered_in}
 use Rattle.sheet_meaning.proofs.Alike.{content_agrees, all_agree, same_meaning}
+use Rattle.sheet_meaning.specs.declared.workbook.Workbook.{Workbook}
 
 module _ (w : Workbook) (us : List Use) where
   -- an item that is used directly is in the support, and so is one that a reached cell reads

@@ -2,11 +2,12 @@
 use Rattle.std.proofs.Common.{◌≡◌, refl, sym, subst, inl, inr, ⊎_elim, ℕ, zero, suc, ◌+◌, ◌<◌, ◌≤◌, Bool, true, false, List, [], ◌∷◌, length, arith}
 use Rattle.std.specs.Prelude.{◌⊎◌, Some, None, if◌then◌else◌}
 use Rattle.std.specs.List.{filter_map, flat_map}
-use Rattle.sheet_meaning.specs.Workbook.{Workbook, FormulaCell, formula_cells}
+use Rattle.sheet_meaning.specs.Workbook.{FormulaCell, formula_cells}
 use Rattle.sheet_meaning.specs.Rounds.{rounds, cell_in}
 use Rattle.sheet_meaning.specs.Support.{Cell, has_cell, with_cells, cell_at, uses_of, cells_read, spread, reached_from, Reaches, ReachedIsAll}
 use Rattle.sheet_meaning.proofs.Members.{IsIn, in_flat_map, from_flat_map}
 use Rattle.sheet_meaning.proofs.Cells.{same_cell, has_in, in_has, kept_in, added_in, from_cells, found_in}
+use Rattle.sheet_meaning.specs.declared.workbook.Workbook.{Workbook}
 
 -- how many formula cells pass a test
 abbrev count : (FormulaCell → Bool) → List FormulaCell → ℕ

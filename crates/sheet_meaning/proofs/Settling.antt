@@ -7,9 +7,10 @@ use Rattle.sheet_values.specs.declared.value.Value.TheVariants.{Object}
 use Rattle.sheet_columns.specs.declared.fault.Fault.TheVariants as fault
 use Rattle.sheet_columns.specs.declared.fault.Place.TheVariants as place
 use Rattle.sheet_meaning.specs.Run.{Outcome, none, is_none}
-use Rattle.sheet_meaning.specs.Workbook.{Workbook, FormulaCell, formula_cells}
+use Rattle.sheet_meaning.specs.Workbook.{FormulaCell, formula_cells}
 use Rattle.sheet_meaning.specs.Rounds.{Table, outcome_in, run_cell, world_at, next_table, table, outcome_after, rounds, meaning, RoundsEnd, CyclesAreFinal}
 use Rattle.sheet_meaning.proofs.Below.{IsBelow, run_below}
+use Rattle.sheet_meaning.specs.declared.workbook.Workbook.{Workbook}
 
 abbrev pub TableBelow : Table → Table → Type 0
 TableBelow [] [] = Unit {0}

@@ -6,8 +6,11 @@ use Rattle.sheet_values.specs.declared.value.Value.TheVariants.{Truth, Number, T
 use Rattle.sheet_values.specs.Sets.{union, minus}
 use Rattle.sheet_columns.specs.declared.statement.Change.{Change}
 use Rattle.sheet_columns.specs.declared.statement.Change.TheVariants.{Set, Add, Remove}
-use Rattle.sheet_meaning.specs.Workbook.{Schema, LiveObject, StoredCell, State}
 use Rattle.sheet_meaning.specs.WellFormed.{StateColumn, state_columns}
+use Rattle.sheet_meaning.specs.declared.workbook.Schema.{Schema}
+use Rattle.sheet_meaning.specs.declared.workbook.LiveObject.{LiveObject}
+use Rattle.sheet_meaning.specs.declared.workbook.StoredCell.{StoredCell}
+use Rattle.sheet_meaning.specs.declared.workbook.State.{State}
 
 -- what a state cell holds after `set`, `add` or `remove`
 abbrev pub changed_set : Change → List Value → List Value → List Value

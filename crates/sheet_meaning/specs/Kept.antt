@@ -1,10 +1,10 @@
 -- The formula cells whose results are kept.
 use Rattle.std.specs.Prelude.{not, List, filter}
 use Rattle.std.specs.List.{list_any}
-use Rattle.sheet_meaning.specs.declared.used.Use.{Use}
-use Rattle.sheet_meaning.specs.Workbook.{Workbook}
+use Rattle.sheet_meaning.specs.declared.run.Use.{Use}
 use Rattle.sheet_meaning.specs.Items.{is_changed}
 use Rattle.sheet_meaning.specs.Support.{Cell, with_cells, reached, support_of_cell}
+use Rattle.sheet_meaning.specs.declared.workbook.Workbook.{Workbook}
 
 -- after an evaluation: the cells that are reached from what it used are kept too
 abbrev pub kept_with : Workbook → List Use → List Cell → List Cell

@@ -14,19 +14,21 @@ use Rattle.sheet_columns.specs.declared.view.CoreView.TheVariants as view
 use Rattle.sheet_columns.specs.declared.page.Part.{Part}
 use Rattle.sheet_columns.specs.declared.page.Part.TheVariants as part
 use Rattle.sheet_columns.specs.declared.page.Row.{Row}
-use Rattle.sheet_meaning.specs.declared.used.Use.{Use}
-use Rattle.sheet_meaning.specs.declared.used.Use.TheVariants.{Read}
+use Rattle.sheet_meaning.specs.declared.run.Use.{Use}
+use Rattle.sheet_meaning.specs.declared.run.Use.TheVariants.{Read}
 use Rattle.sheet_meaning.specs.declared.refusal.Refusal.{Refusal}
 use Rattle.sheet_meaning.specs.declared.refusal.Refusal.TheVariants.{Denied, FormulaFault}
-use Rattle.sheet_meaning.specs.Run.{Outcome, Run, after}
+use Rattle.sheet_meaning.specs.Run.{Outcome, after}
 use Rattle.sheet_meaning.specs.Formula.{Variables, bind, object_in, truth}
-use Rattle.sheet_meaning.specs.Workbook.{Workbook}
 use Rattle.sheet_meaning.specs.WellFormed.{IsWellFormed}
 use Rattle.sheet_meaning.specs.Rounds.{settled_run}
 use Rattle.sheet_meaning.specs.Items.{content}
 use Rattle.sheet_meaning.specs.Support.{Cell, support}
 use Rattle.sheet_meaning.specs.Kept.{kept_with}
-use Rattle.sheet_meaning.specs.Procedure.{Caller, first_variables}
+use Rattle.sheet_meaning.specs.Procedure.{first_variables}
+use Rattle.sheet_meaning.specs.declared.run.Run.{Run}
+use Rattle.sheet_meaning.specs.declared.workbook.Workbook.{Workbook}
+use Rattle.sheet_meaning.specs.declared.workbook.Caller.{Caller}
 
 -- what a slot's formula comes to
 abbrev pub slot_run : Workbook → Variables → CoreSlot → Run (List Value)

@@ -1,5 +1,5 @@
 -- The run of a procedure, for a caller and arguments.
-use Rattle.std.specs.Prelude.{ℕ, Bool, if◌then◌else◌, List, [], ◌∷◌, length, map, Option, Some, None, Result, Ok, Err}
+use Rattle.std.specs.Prelude.{ℕ, if◌then◌else◌, List, [], ◌∷◌, length, map, Option, Some, None, Result, Ok, Err}
 use Rattle.sheet_values.specs.declared.value.Value.{Value}
 use Rattle.sheet_values.specs.declared.value.Value.TheVariants.{Truth}
 use Rattle.sheet_columns.specs.declared.fault.Place.TheVariants as place
@@ -8,15 +8,13 @@ use Rattle.sheet_columns.specs.declared.statement.CoreStatement.{CoreStatement}
 use Rattle.sheet_meaning.specs.declared.refusal.Refusal.{Refusal}
 use Rattle.sheet_meaning.specs.declared.refusal.Refusal.TheVariants.{Denied, NotOneCell}
 use Rattle.sheet_meaning.specs.Formula.{Variables, objects_of, truth}
-use Rattle.sheet_meaning.specs.Workbook.{Schema, State, set_in}
+use Rattle.sheet_meaning.specs.Workbook.{set_in}
 use Rattle.sheet_meaning.specs.WellFormed.{unfilled}
 use Rattle.sheet_meaning.specs.Support.{Cell}
 use Rattle.sheet_meaning.specs.Statements.{Point, workbook, next, from_run, formula, run_statements}
-
--- who calls: an object, which the operator lacks, and whether it is the operator
-pub record Caller : Type 0 where
-  pub object : Option ℕ
-  pub operator : Bool
+use Rattle.sheet_meaning.specs.declared.workbook.Schema.{Schema}
+use Rattle.sheet_meaning.specs.declared.workbook.State.{State}
+use Rattle.sheet_meaning.specs.declared.workbook.Caller.{Caller}
 
 -- the variables at the start: `caller`, `operator`, and the arguments
 abbrev pub first_variables : Caller → List Value → Variables

@@ -12,14 +12,18 @@ use Rattle.sheet_meaning.specs.declared.refusal.Which.{Which}
 use Rattle.sheet_meaning.specs.declared.refusal.Which.TheVariants as which
 use Rattle.sheet_meaning.specs.declared.refusal.Refusal.{Refusal}
 use Rattle.sheet_meaning.specs.declared.refusal.Refusal.TheVariants.{CheckFailed, FormulaFault, Full}
-use Rattle.sheet_meaning.specs.Run.{Outcome, Run, finish, both, the_one}
+use Rattle.sheet_meaning.specs.Run.{Outcome, finish, both, the_one}
 use Rattle.sheet_meaning.specs.Formula.{Variables, object_in, truth}
-use Rattle.sheet_meaning.specs.Workbook.{Schema, State, Workbook, object_at, set_in}
+use Rattle.sheet_meaning.specs.Workbook.{object_at, set_in}
 use Rattle.sheet_meaning.specs.Rounds.{settled_run}
 use Rattle.sheet_meaning.specs.WellFormed.{stored_values, cell_count, max_objects, max_cells, max_values, max_number}
 use Rattle.sheet_meaning.specs.Support.{Cell}
 use Rattle.sheet_meaning.specs.Kept.{kept_with, kept_after}
 use Rattle.sheet_meaning.specs.Changes.{changed_set, with_set, with_object, without_object}
+use Rattle.sheet_meaning.specs.declared.run.Run.{Run}
+use Rattle.sheet_meaning.specs.declared.workbook.Schema.{Schema}
+use Rattle.sheet_meaning.specs.declared.workbook.State.{State}
+use Rattle.sheet_meaning.specs.declared.workbook.Workbook.{Workbook}
 
 -- how far the run of a procedure has come: the state, the variables, the reply so far, and the formula cells that are kept
 pub record Point : Type 0 where

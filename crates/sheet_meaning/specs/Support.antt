@@ -7,11 +7,12 @@ use Rattle.sheet_columns.specs.declared.item.Item.{Item}
 use Rattle.sheet_columns.specs.declared.item.Item.TheVariants.{Live}
 use Rattle.sheet_columns.specs.declared.fault.Place.{Place}
 use Rattle.sheet_columns.specs.declared.formula.Core.{Core}
-use Rattle.sheet_meaning.specs.declared.used.Use.{Use}
-use Rattle.sheet_meaning.specs.declared.used.Use.TheVariants as used
+use Rattle.sheet_meaning.specs.declared.run.Use.{Use}
+use Rattle.sheet_meaning.specs.declared.run.Use.TheVariants as used
 use Rattle.sheet_meaning.specs.Formula.{Variables}
-use Rattle.sheet_meaning.specs.Workbook.{Workbook, FormulaCell, formula_cells}
+use Rattle.sheet_meaning.specs.Workbook.{FormulaCell, formula_cells}
 use Rattle.sheet_meaning.specs.Rounds.{run_cell, settled_world, settled_run, rounds, item_in, cell_in}
+use Rattle.sheet_meaning.specs.declared.workbook.Workbook.{Workbook}
 
 -- a formula cell's object and column
 abbrev pub Cell : Type 0

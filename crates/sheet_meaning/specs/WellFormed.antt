@@ -12,7 +12,12 @@ use Rattle.sheet_columns.specs.declared.tree.Column.{Column}
 use Rattle.sheet_columns.specs.declared.tree.Column.TheVariants as column
 use Rattle.sheet_columns.specs.declared.tree.Node.{Node}
 use Rattle.sheet_columns.specs.Tree.{column_of, above_of, is_number}
-use Rattle.sheet_meaning.specs.Workbook.{Schema, LiveObject, StoredCell, State, Workbook, object_at, column_in, set_in, formula_cells}
+use Rattle.sheet_meaning.specs.Workbook.{object_at, column_in, set_in, formula_cells}
+use Rattle.sheet_meaning.specs.declared.workbook.Schema.{Schema}
+use Rattle.sheet_meaning.specs.declared.workbook.LiveObject.{LiveObject}
+use Rattle.sheet_meaning.specs.declared.workbook.StoredCell.{StoredCell}
+use Rattle.sheet_meaning.specs.declared.workbook.State.{State}
+use Rattle.sheet_meaning.specs.declared.workbook.Workbook.{Workbook}
 
 -- a state column: its number, the type of its values, whether each cell must hold exactly one, and the first value of a new cell
 pub record StateColumn : Type 0 where

@@ -7,10 +7,12 @@ ghost use Rattle.sheet_meaning.specs.Rounds.{RoundsEnd, CyclesAreFinal};
 ghost use Rattle.sheet_meaning.specs.Support.{ReachedIsAll};
 
 mod refusal;
-mod used;
+mod run;
+mod workbook;
 
 pub use refusal::{Refusal, Which};
-pub use used::Use;
+pub use run::{Run, Use};
+pub use workbook::{Caller, ColumnFormula, LiveObject, Schema, State, StoredCell, Workbook};
 
 /// After as many rounds as there are formula cells, no round changes the table of outcomes.
 pub fn rounds_end()
