@@ -19,7 +19,7 @@ pub use item::{Item, Items};
 pub use page::{Names, Page, Part, Row, Rows, Shows};
 pub use parameters::Parameters;
 pub use sequence::Sequence;
-pub use statement::{Action, Change, CoreStatement, Statements, Target};
+pub use statement::{Change, CoreStatement, Statements, Target};
 pub use tree::{Column, ColumnRefusal, Columns};
 pub use view::{CoreParts, CoreSlot, CoreSlots, CoreView};
 

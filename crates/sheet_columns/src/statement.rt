@@ -26,36 +26,58 @@ pub struct Target {
     pub column: u32,
 }
 
-/// What a statement does. What `let`, `new` and `for` bind stands at the position behind all variables
-/// so far, to the end of the block.
+/// A statement, with its number: statements are numbered from 1 in the order of the text, inner ones
+/// after the one that holds them. The number is the place of the statement's faults. What `let`, `new`
+/// and `for` bind stands at the position behind all variables so far, to the end of the block.
 #[cycle(statements)]
 #[derive(Drop)]
-pub enum Action {
+pub enum CoreStatement {
     /// `let x = e`
-    Let(Core),
+    Let {
+        number: u32,
+        value: Core,
+    },
     /// `set t = e`, `add e to t` and `remove e from t`, of a state column.
-    Change(Change, Target, Core),
+    Change {
+        number: u32,
+        change: Change,
+        target: Target,
+        value: Core,
+    },
     /// `new x = t`, of an object column.
-    New(Target),
+    New {
+        number: u32,
+        target: Target,
+    },
     /// `delete e`
-    Delete(Core),
+    Delete {
+        number: u32,
+        objects: Core,
+    },
     /// `check e else "m"`
-    Check(Core, Name),
+    Check {
+        number: u32,
+        condition: Core,
+        message: Name,
+    },
     /// `if e { } else { }`. An `else` that was left out has no statements.
-    If(Core, Statements, Statements),
+    If {
+        number: u32,
+        condition: Core,
+        body: Statements,
+        otherwise: Statements,
+    },
     /// `for x in e { }`
-    For(Core, Statements),
+    For {
+        number: u32,
+        source: Core,
+        body: Statements,
+    },
     /// `reply e`
-    Reply(Core),
-}
-
-/// A statement with its number. Statements are numbered from 1 in the order of the text, inner ones
-/// after the one that holds them. The number is the place of the statement's faults.
-#[cycle(statements)]
-#[derive(Drop)]
-pub struct CoreStatement {
-    pub number: u32,
-    pub action: Action,
+    Reply {
+        number: u32,
+        value: Core,
+    },
 }
 
 /// Statements in order.

@@ -1,4 +1,4 @@
-use crate::{Column, Columns, Item, Items, Names, Sequence};
+use crate::{Column, Columns, Core, CoreStatement, Item, Items, Names, Sequence, Statements};
 use sheet_values::{Kind, Name};
 use std::test::Fail;
 
@@ -56,5 +56,20 @@ fn items_stand_in_order(rt: HostRuntime) -> Result<(), Fail> {
         items.as_slice(),
         [Item::Live(4), Item::Stored(1, 2)].as_slice()
     );
+    Ok(())
+}
+
+#[test]
+fn statements_stand_in_order(rt: HostRuntime) -> Result<(), Fail> {
+    let alloc = rt.alloc();
+    let mut statements = Statements::new(alloc);
+    statements.push(CoreStatement::Reply {
+        number: 1,
+        value: Core::Root,
+    })?;
+    assert_eq!(rt; statements.len(), 1);
+    let is_reply = matches!(statements.at(0), CoreStatement::Reply { number: 1, .. });
+    assert!(rt; is_reply);
+    assert_eq!(rt; statements.as_slice().len(), 1);
     Ok(())
 }

@@ -7,11 +7,13 @@ use Rattle.sheet_columns.specs.declared.fault.Fault.TheVariants.{Cycle, NotOne, 
 use Rattle.sheet_columns.specs.declared.fault.Place.{Place}
 use Rattle.sheet_columns.specs.declared.formula.Connective.{Connective}
 use Rattle.sheet_columns.specs.declared.formula.Core.{Core}
-use Rattle.sheet_meaning.specs.Run.{Outcome, none, is_none, Run, given, done, after, run_after, both_outcomes, finish, and_then, both, decides, second_after_fault, second_truth, connect}
+use Rattle.sheet_meaning.specs.Run.{Outcome, none, is_none, given, done, after, run_after, both_outcomes, finish, and_then, both, decides, second_after_fault, second_truth, connect}
 use Rattle.sheet_meaning.specs.Formula.{Variables, run}
-use Rattle.sheet_meaning.specs.Workbook.{Workbook, world}
+use Rattle.sheet_meaning.specs.Workbook.{world}
 use Rattle.sheet_meaning.proofs.Members.{Within, within_itself, nothing_within, within_append}
 use Rattle.sheet_meaning.proofs.Relation.{IsKept, HoldsAtReads, related}
+use Rattle.sheet_meaning.specs.declared.run.Run.{Run}
+use Rattle.sheet_meaning.specs.declared.workbook.Workbook.{Workbook}
 
 -- an outcome that is there stays
 abbrev pub IsBelow : {A : Type 0} → Outcome A → Outcome A → Type 0

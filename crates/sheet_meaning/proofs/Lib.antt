@@ -5,3 +5,7 @@ pub mod Below
 pub mod Tracks
 pub mod Settling
 pub mod Reaching
+pub mod FormulaCells
+pub mod Ordered
+pub mod Alike
+pub mod Pages

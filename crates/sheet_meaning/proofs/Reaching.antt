@@ -1,12 +1,13 @@
 -- The cells that are reached.
-use Rattle.std.proofs.Common.{◌≡◌, refl, sym, ap, ◌∙◌, subst, inl, inr, ⊎_elim, ℕ, zero, suc, ◌+◌, ◌<◌, ◌≤◌, Bool, true, false, List, [], ◌∷◌, ◌++◌, length, arith}
-use Rattle.std.specs.Prelude.{◌⊎◌, ◌↔◌, Option, Some, None, if◌then◌else◌}
+use Rattle.std.proofs.Common.{◌≡◌, refl, sym, subst, inl, inr, ⊎_elim, ℕ, zero, suc, ◌+◌, ◌<◌, ◌≤◌, Bool, true, false, List, [], ◌∷◌, length, arith}
+use Rattle.std.specs.Prelude.{◌⊎◌, Some, None, if◌then◌else◌}
 use Rattle.std.specs.List.{filter_map, flat_map}
-use Rattle.sheet_meaning.specs.Workbook.{Workbook, FormulaCell, formula_cells}
+use Rattle.sheet_meaning.specs.Workbook.{FormulaCell, formula_cells}
 use Rattle.sheet_meaning.specs.Rounds.{rounds, cell_in}
-use Rattle.sheet_meaning.specs.Support.{Cell, is_cell, has_cell, with_cells, cell_at, uses_of, cells_read, spread, reached_from, Reaches, ReachedIsAll}
+use Rattle.sheet_meaning.specs.Support.{Cell, has_cell, with_cells, cell_at, uses_of, cells_read, spread, reached_from, Reaches, ReachedIsAll}
 use Rattle.sheet_meaning.proofs.Members.{IsIn, in_flat_map, from_flat_map}
 use Rattle.sheet_meaning.proofs.Cells.{same_cell, has_in, in_has, kept_in, added_in, from_cells, found_in}
+use Rattle.sheet_meaning.specs.declared.workbook.Workbook.{Workbook}
 
 -- how many formula cells pass a test
 abbrev count : (FormulaCell → Bool) → List FormulaCell → ℕ
@@ -132,7 +133,7 @@ module _ (w : Workbook) where
         Reaches.through f.0 x (sound k f.0 f.1) (in_has (cells_read w f.0) x f.2))
         (from_cells (spread w k (with_cells [] from)) (flat_map (cells_read w) (spread w k (with_cells [] from))) x h)
 
-    complete : (x : Cell) → Reaches w from x → IsIn x (reached_from w from)
+    pub complete : (x : Cell) → Reaches w from x → IsIn x (reached_from w from)
     complete z (Reaches.direct x h) = starts (with_cells [] from) (suc (rounds w)) x (added_in [] from x (has_in from x h))
     complete z (Reaches.through x y r h) = (closed (with_cells [] from)).each x y (complete x r) (has_in (cells_read w x) y h)
 

@@ -10,8 +10,9 @@ use Rattle.sheet_columns.specs.declared.formula.Connective.{Connective}
 use Rattle.sheet_columns.specs.declared.formula.Quantifier.{Quantifier}
 use Rattle.sheet_columns.specs.declared.formula.Quantifier.TheVariants.{Any, All}
 use Rattle.sheet_columns.specs.declared.formula.Core.{Core, Truth, Number, Text, Root, Variable, ObjectStep', StateStep', FormulaStep', Up', Set', Combine', Compare', Order', Arithmetic', Negate', Join', Not', Connect', If', Count', Only', Extreme', Comprehension', Sum', Quantify', Row_of-Core, end_of-Core as end, more_of-Core as more}
-use Rattle.sheet_meaning.specs.Run.{Outcome, Run, given, done, finish, and_then, both, all, connect}
+use Rattle.sheet_meaning.specs.Run.{Outcome, given, done, finish, and_then, both, all, connect}
 use Rattle.sheet_meaning.specs.Formula.{World, Variables, run, run_each, step, bind, turn, quantified, gathered, single, on_object, extent_of, stored_of, worked_of, parent_of, variable_read}
+use Rattle.sheet_meaning.specs.declared.run.Run.{Run}
 
 -- the steps of an evaluation keep the relation
 pub record IsKept (R : (A : Type 0) → Run A → Run A → Type 0) : Type 1 where

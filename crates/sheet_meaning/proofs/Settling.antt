@@ -7,9 +7,10 @@ use Rattle.sheet_values.specs.declared.value.Value.TheVariants.{Object}
 use Rattle.sheet_columns.specs.declared.fault.Fault.TheVariants as fault
 use Rattle.sheet_columns.specs.declared.fault.Place.TheVariants as place
 use Rattle.sheet_meaning.specs.Run.{Outcome, none, is_none}
-use Rattle.sheet_meaning.specs.Workbook.{Workbook, FormulaCell, formula_cells}
+use Rattle.sheet_meaning.specs.Workbook.{FormulaCell, formula_cells}
 use Rattle.sheet_meaning.specs.Rounds.{Table, outcome_in, run_cell, world_at, next_table, table, outcome_after, rounds, meaning, RoundsEnd, CyclesAreFinal}
 use Rattle.sheet_meaning.proofs.Below.{IsBelow, run_below}
+use Rattle.sheet_meaning.specs.declared.workbook.Workbook.{Workbook}
 
 abbrev pub TableBelow : Table → Table → Type 0
 TableBelow [] [] = Unit {0}
@@ -127,7 +128,7 @@ module _ (w : Workbook) where
 pub rounds_end : RoundsEnd
 rounds_end = ends_from
 
-none_below : (o q : Outcome (List Value)) → IsBelow o q → q ≡ none → o ≡ none
+pub none_below : (o q : Outcome (List Value)) → IsBelow o q → q ≡ none → o ≡ none
 none_below o q b e = ⊎_elim (λ n. n) (λ same. sym same ∙ e) b
 
 -- from one round to a later one
@@ -140,7 +141,7 @@ module _ (w : Workbook) where
       (none_below _ _ (outcome_below (formula_cells w) (table w (j + k)) (table w (suc (j + k))) (grows w (j + k)) o c)
       (subst (λ i. outcome_after w i o c ≡ none) z e))
 
-  later_same : (o c k : ℕ) → rounds w ≤ k → outcome_after w k o c ≡ meaning w o c
+  pub later_same : (o c k : ℕ) → rounds w ≤ k → outcome_after w k o c ≡ meaning w o c
   later_same o c k le = ap (λ t. outcome_in (formula_cells w) t o c) (ends_from w k le)
 
 pub cycles_are_final : CyclesAreFinal

@@ -6,19 +6,20 @@ use Rattle.sheet_values.specs.declared.value.Value.TheVariants as value
 use Rattle.sheet_columns.specs.declared.fault.Fault.{Fault}
 use Rattle.sheet_columns.specs.declared.item.Item.TheVariants.{Extent, Stored, Up}
 use Rattle.sheet_columns.specs.declared.formula.Connective.{Connective}
-use Rattle.sheet_meaning.specs.declared.used.Use.{Use}
-use Rattle.sheet_meaning.specs.declared.used.Use.TheVariants.{Read, Cell}
-use Rattle.sheet_meaning.specs.Run.{Outcome, is_none, Run, given, done, run_after, finish, and_then, both, decides, second_after_fault, second_truth, connect}
+use Rattle.sheet_meaning.specs.declared.run.Use.{Use}
+use Rattle.sheet_meaning.specs.declared.run.Use.TheVariants.{Read, Cell}
+use Rattle.sheet_meaning.specs.Run.{Outcome, is_none, given, done, run_after, finish, and_then, both, decides, second_after_fault, second_truth, connect}
 use Rattle.sheet_meaning.specs.Formula.{World, objects_of, is_read, live_reads}
 use Rattle.sheet_meaning.specs.Reads.{Agree, UsesSuffice}
 use Rattle.sheet_meaning.proofs.Relation.{IsKept, HoldsAtReads, related}
+use Rattle.sheet_meaning.specs.declared.run.Run.{Run}
 
 module _ (w u : World) where
-  front_agrees : (xs ys : List Use) → Agree w u (xs ++ ys) → Agree w u xs
+  pub front_agrees : (xs ys : List Use) → Agree w u (xs ++ ys) → Agree w u xs
   front_agrees [] ys h = tt
   front_agrees (x ∷ xs) ys h = (h.0, front_agrees xs ys h.1)
 
-  back_agrees : (xs ys : List Use) → Agree w u (xs ++ ys) → Agree w u ys
+  pub back_agrees : (xs ys : List Use) → Agree w u (xs ++ ys) → Agree w u ys
   back_agrees [] ys h = h
   back_agrees (x ∷ xs) ys h = back_agrees xs ys h.1
 

@@ -23,9 +23,10 @@ use Rattle.sheet_columns.specs.declared.formula.Extremum.TheVariants.{Min, Max}
 use Rattle.sheet_columns.specs.declared.formula.Quantifier.{Quantifier}
 use Rattle.sheet_columns.specs.declared.formula.Quantifier.TheVariants.{Any, All}
 use Rattle.sheet_columns.specs.declared.formula.Core.{Core, Truth, Number, Text, Root, Variable, ObjectStep', StateStep', FormulaStep', Up' as UpStep', Set', Combine', Compare', Order', Arithmetic', Negate', Join', Not', Connect', If', Count', Only', Extreme', Comprehension', Sum', Quantify', Row_of-Core, end_of-Core as end, more_of-Core as more}
-use Rattle.sheet_meaning.specs.declared.used.Use.{Use}
-use Rattle.sheet_meaning.specs.declared.used.Use.TheVariants.{Read, Cell}
-use Rattle.sheet_meaning.specs.Run.{Outcome, Run, done, finish, and_then, both, all, connect, the_one}
+use Rattle.sheet_meaning.specs.declared.run.Use.{Use}
+use Rattle.sheet_meaning.specs.declared.run.Use.TheVariants.{Read, Cell}
+use Rattle.sheet_meaning.specs.Run.{Outcome, done, finish, and_then, both, all, connect, the_one}
+use Rattle.sheet_meaning.specs.declared.run.Run.{Run}
 
 -- the content that expressions are worked out from: stored sets, children, parents, whether an object is live, and the outcomes of
 -- formula cells

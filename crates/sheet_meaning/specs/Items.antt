@@ -1,10 +1,11 @@
 -- The content of items, and the items that a change changes.
-use Rattle.std.specs.Prelude.{◌≡◌, ℕ, Bool, true, false, not, ◌==◌, List, Option, Some, None}
+use Rattle.std.specs.Prelude.{ℕ, Bool, true, false, not, ◌==◌, List, Option, Some, None}
 use Rattle.sheet_values.specs.declared.value.Value.{Value}
 use Rattle.sheet_columns.specs.declared.item.Item.{Item}
 use Rattle.sheet_columns.specs.declared.item.Item.TheVariants.{Live, Up, Extent, Stored}
 use Rattle.sheet_meaning.specs.Formula.{sets_equal}
-use Rattle.sheet_meaning.specs.Workbook.{State, object_at, column_in, parent_in, children_in, set_in}
+use Rattle.sheet_meaning.specs.Workbook.{object_at, column_in, parent_in, children_in, set_in}
+use Rattle.sheet_meaning.specs.declared.workbook.State.{State}
 
 -- what an item tells: a column or none, a parent or none, or a set
 pub data Content : Type 0 where

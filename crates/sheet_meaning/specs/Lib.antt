@@ -5,3 +5,9 @@ pub mod Rounds
 pub mod Reads
 pub mod Items
 pub mod Support
+pub mod WellFormed
+pub mod Kept
+pub mod Changes
+pub mod Statements
+pub mod Procedure
+pub mod Page

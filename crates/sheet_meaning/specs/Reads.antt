@@ -3,8 +3,8 @@ use Rattle.std.specs.Prelude.{◌≡◌, List, [], ◌∷◌}
 use Rattle.sheet_columns.specs.declared.fault.Place.{Place}
 use Rattle.sheet_columns.specs.declared.item.Item.TheVariants.{Live, Up, Extent, Stored}
 use Rattle.sheet_columns.specs.declared.formula.Core.{Core}
-use Rattle.sheet_meaning.specs.declared.used.Use.{Use}
-use Rattle.sheet_meaning.specs.declared.used.Use.TheVariants.{Read, Cell}
+use Rattle.sheet_meaning.specs.declared.run.Use.{Use}
+use Rattle.sheet_meaning.specs.declared.run.Use.TheVariants.{Read, Cell}
 use Rattle.sheet_meaning.specs.Formula.{World, Variables, run}
 
 -- the same content of an item, the same outcome of a formula cell

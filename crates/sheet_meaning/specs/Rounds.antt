@@ -7,11 +7,13 @@ use Rattle.sheet_columns.specs.declared.fault.Place.{Place}
 use Rattle.sheet_columns.specs.declared.fault.Place.TheVariants as place
 use Rattle.sheet_columns.specs.declared.item.Item.{Item}
 use Rattle.sheet_columns.specs.declared.formula.Core.{Core}
-use Rattle.sheet_meaning.specs.declared.used.Use.{Use}
-use Rattle.sheet_meaning.specs.declared.used.Use.TheVariants.{Read, Cell}
-use Rattle.sheet_meaning.specs.Run.{Outcome, none, Run}
+use Rattle.sheet_meaning.specs.declared.run.Use.{Use}
+use Rattle.sheet_meaning.specs.declared.run.Use.TheVariants.{Read, Cell}
+use Rattle.sheet_meaning.specs.Run.{Outcome, none}
 use Rattle.sheet_meaning.specs.Formula.{World, Variables, run}
-use Rattle.sheet_meaning.specs.Workbook.{Workbook, FormulaCell, formula_cells, world}
+use Rattle.sheet_meaning.specs.Workbook.{FormulaCell, formula_cells, world}
+use Rattle.sheet_meaning.specs.declared.run.Run.{Run}
+use Rattle.sheet_meaning.specs.declared.workbook.Workbook.{Workbook}
 
 -- an outcome for each formula cell, in the order of the cells
 abbrev pub Table : Type 0

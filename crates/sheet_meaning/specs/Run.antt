@@ -6,7 +6,7 @@ use Rattle.sheet_columns.specs.declared.fault.Fault.TheVariants as fault
 use Rattle.sheet_columns.specs.declared.fault.Place.{Place}
 use Rattle.sheet_columns.specs.declared.formula.Connective.{Connective}
 use Rattle.sheet_columns.specs.declared.formula.Connective.TheVariants.{And, Or}
-use Rattle.sheet_meaning.specs.declared.used.Use.{Use}
+use Rattle.sheet_meaning.specs.declared.run.Run.{Run}
 
 -- what an evaluation comes to: a value, a fault, or nothing so far, which is written as the fault `cycle`
 abbrev pub Outcome : Type 0 → Type 0
@@ -23,11 +23,6 @@ is_none (fault.NotOne how p) = false
 is_none (fault.Overflow p) = false
 is_none (fault.ZeroDivisor p) = false
 is_none (fault.TextTooLong p) = false
-
--- an outcome, and the items and formula cells that were used, in order
-pub record Run (A : Type 0) : Type 0 where
-  pub outcome : Outcome A
-  pub uses : List Use
 
 -- an outcome for which nothing is used
 abbrev pub given : {A : Type 0} → Outcome A → Run A

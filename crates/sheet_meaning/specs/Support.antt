@@ -1,17 +1,18 @@
 -- The formula cells that are reached from what is used, and the support: the items that it rests on.
-use Rattle.std.specs.Prelude.{◌≡◌, ◌↔◌, IsTrue, true, false, ℕ, zero, suc, ◌+◌, Bool, ◌==◌, ◌&&◌, if◌then◌else◌, List, [], ◌∷◌, ◌++◌, fold, Option, Some, None}
+use Rattle.std.specs.Prelude.{◌≡◌, ◌↔◌, true, ℕ, zero, suc, Bool, ◌==◌, ◌&&◌, if◌then◌else◌, List, [], ◌∷◌, ◌++◌, fold, Option, Some, None}
 use Rattle.std.specs.List.{list_any, flat_map, filter_map}
-use Rattle.sheet_values.specs.Sorted.{insert, contains}
+use Rattle.sheet_values.specs.Sorted.{insert}
 use Rattle.sheet_columns.specs.ItemOrder.{item_cmp}
 use Rattle.sheet_columns.specs.declared.item.Item.{Item}
 use Rattle.sheet_columns.specs.declared.item.Item.TheVariants.{Live}
 use Rattle.sheet_columns.specs.declared.fault.Place.{Place}
 use Rattle.sheet_columns.specs.declared.formula.Core.{Core}
-use Rattle.sheet_meaning.specs.declared.used.Use.{Use}
-use Rattle.sheet_meaning.specs.declared.used.Use.TheVariants as used
+use Rattle.sheet_meaning.specs.declared.run.Use.{Use}
+use Rattle.sheet_meaning.specs.declared.run.Use.TheVariants as used
 use Rattle.sheet_meaning.specs.Formula.{Variables}
-use Rattle.sheet_meaning.specs.Workbook.{Workbook, FormulaCell, formula_cells}
+use Rattle.sheet_meaning.specs.Workbook.{FormulaCell, formula_cells}
 use Rattle.sheet_meaning.specs.Rounds.{run_cell, settled_world, settled_run, rounds, item_in, cell_in}
+use Rattle.sheet_meaning.specs.declared.workbook.Workbook.{Workbook}
 
 -- a formula cell's object and column
 abbrev pub Cell : Type 0

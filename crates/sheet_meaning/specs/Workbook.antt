@@ -1,45 +1,17 @@
 -- A workbook, as lists.
-use Rattle.std.specs.Prelude.{ℕ, Bool, true, false, ◌&&◌, ◌==◌, List, [], ◌∷◌, map, filter, if◌then◌else◌, Option, Some, None, is_some}
+use Rattle.std.specs.Prelude.{ℕ, Bool, ◌&&◌, ◌==◌, List, [], ◌∷◌, map, filter, if◌then◌else◌, Option, Some, None, is_some}
 use Rattle.std.specs.List.{flat_map, filter_map}
 use Rattle.sheet_values.specs.declared.value.Value.{Value}
 use Rattle.sheet_values.specs.declared.value.Value.TheVariants.{Object}
 use Rattle.sheet_columns.specs.declared.formula.Core.{Core}
-use Rattle.sheet_columns.specs.declared.tree.Node.{Node}
 use Rattle.sheet_columns.specs.Tree.{above_of, is_number}
 use Rattle.sheet_meaning.specs.Run.{Outcome}
 use Rattle.sheet_meaning.specs.Formula.{World}
-
--- the formula of a formula column
-pub record ColumnFormula : Type 0 where
-  pub column : ℕ
-  pub core : Core
-
--- the columns, in the order of their numbers, and the formulas of the formula columns
-pub record Schema : Type 0 where
-  pub columns : List Node
-  pub formulas : List ColumnFormula
-
--- a live object: its number, its column, and its parent, which the root lacks
-pub record LiveObject : Type 0 where
-  pub number : ℕ
-  pub column : ℕ
-  pub parent : Option ℕ
-
--- a state cell and its set
-pub record StoredCell : Type 0 where
-  pub object : ℕ
-  pub column : ℕ
-  pub set : List Value
-
--- what changes of a workbook: the live objects by number, the state cells by object and column, and the next object number
-pub record State : Type 0 where
-  pub objects : List LiveObject
-  pub cells : List StoredCell
-  pub next : ℕ
-
-pub record Workbook : Type 0 where
-  pub schema : Schema
-  pub state : State
+use Rattle.sheet_meaning.specs.declared.workbook.ColumnFormula.{ColumnFormula}
+use Rattle.sheet_meaning.specs.declared.workbook.Schema.{Schema}
+use Rattle.sheet_meaning.specs.declared.workbook.LiveObject.{LiveObject}
+use Rattle.sheet_meaning.specs.declared.workbook.StoredCell.{StoredCell}
+use Rattle.sheet_meaning.specs.declared.workbook.Workbook.{Workbook}
 
 -- the live object with a number
 abbrev pub object_at : List LiveObject → ℕ → Option LiveObject

@@ -1,13 +1,18 @@
 //! What formulas, statements and views mean.
 #![tactic(auto)]
 
+ghost use Rattle.sheet_meaning.specs.Page.{SupportSuffices};
 ghost use Rattle.sheet_meaning.specs.Reads.{UsesSuffice};
 ghost use Rattle.sheet_meaning.specs.Rounds.{RoundsEnd, CyclesAreFinal};
 ghost use Rattle.sheet_meaning.specs.Support.{ReachedIsAll};
 
-mod used;
+mod refusal;
+mod run;
+mod workbook;
 
-pub use used::Use;
+pub use refusal::{Refusal, Which};
+pub use run::{Run, Use};
+pub use workbook::{Caller, ColumnFormula, LiveObject, Schema, State, StoredCell, Workbook};
 
 /// After as many rounds as there are formula cells, no round changes the table of outcomes.
 pub fn rounds_end()
@@ -30,4 +35,10 @@ pub fn uses_suffice()
 /// cells that they read directly, and so on.
 pub fn reached_is_all()
     ensures { ReachedIsAll }
+{}
+
+/// Two well-formed workbooks of one schema that agree at the support of a view in the first give the
+/// same page to the same caller and arguments.
+pub fn support_suffices()
+    ensures { SupportSuffices }
 {}
