@@ -9,3 +9,5 @@ pub mod FormulaCells
 pub mod Ordered
 pub mod Alike
 pub mod Pages
+pub mod Examples
+pub mod Club
