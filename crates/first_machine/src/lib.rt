@@ -1,0 +1,12 @@
+//! Workbooks of the first form, and their answers to request lines.
+#![tactic(auto)]
+
+mod lookup;
+mod session;
+mod tree;
+mod work;
+
+pub use session::{Answered, LONGEST_REQUEST, Session};
+
+#[cfg(test)]
+mod tests;
