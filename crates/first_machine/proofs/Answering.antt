@@ -1,27 +1,22 @@
 -- Replies, pages and what they change.
-use Rattle.std.proofs.Common.{◌≡◌, refl, sym, ap, ◌∙◌, subst, inl, inr, ℕ, ℤ, zero, suc, ◌+◌, ◌<◌, ◌≤◌, true, false, Some, None, Ok, Err, List, [], ◌∷◌, ◌++◌, length, map, set, length-append, arith}
-use Rattle.std.specs.Prelude.{Result, All, IfOk, ◌+ℤ◌, ◌==◌, if◌then◌else◌}
-use Rattle.std.specs.Str.{bytes_eq}
+use Rattle.std.proofs.Common.{◌≡◌, refl, sym, ap, ◌∙◌, subst, inl, inr, ℕ, ℤ, zero, suc, ◌+◌, ◌<◌, ◌≤◌, true, Some, None, Ok, Err, List, [], ◌∷◌, ◌++◌, length, map, set, length-append, arith}
+use Rattle.std.specs.Prelude.{Result, All, IfOk, ◌==◌}
 use Rattle.std.specs.List.{AllByRecursion, filter_map}
 use Rattle.std.proofs.lemmas.Bool.{cases_Bool}
 use Rattle.sheet_columns.specs.declared.fault.Fault.{Fault}
-use Rattle.sheet_columns.specs.declared.fault.Fault.TheVariants.{Overflow}
-use Rattle.sheet_columns.specs.declared.fault.Place.{Place}
 use Rattle.sheet_columns.specs.declared.fault.Place.TheVariants.{Cell}
 use Rattle.sheet_values.specs.declared.value.Value.{Value}
 use Rattle.sheet_wire.specs.declared.reply.Answer.TheVariants.{Values}
 use Rattle.sheet_columns.specs.declared.page.Part.{Part}
 use Rattle.sheet_columns.specs.declared.page.Part.TheVariants.{Show}
 use Rattle.std.proofs.lemmas.Grind.{common_steps}
-use Rattle.sheet_wire.specs.Replies.{IsPlaceWithin, IsShownWithin, IsPartWithin}
+use Rattle.sheet_wire.specs.Replies.{IsFaultWithin, IsShownWithin, IsPartWithin}
 use Rattle.sheet_wire.specs.Requests.{Reads, line_request}
 use Rattle.sheet_wire.specs.declared.request.Request.{Request}
 use Rattle.sheet_wire.specs.declared.request.WireRefusal.TheVariants as wire
 use Rattle.sheet_wire.specs.declared.reply.Reply.{Reply}
 use Rattle.sheet_wire.specs.declared.reply.Reply.TheVariants.{Accepted, Page, Wire}
 use Rattle.serde_json.specs.Data.{Data}
-use Rattle.first_form.specs.declared.definition.Term.{Term}
-use Rattle.first_form.specs.declared.definition.Term.TheVariants as term
 use Rattle.first_form.specs.declared.definition.Slot.{Slot}
 use Rattle.first_form.specs.declared.definition.Declaration.{Declaration}
 use Rattle.first_form.specs.declared.definition.Declaration.TheVariants.{State, Formula, Procedure, View}
@@ -29,10 +24,11 @@ use Rattle.first_form.specs.Names.{columns, IsWellNamed}
 use Rattle.first_machine.specs.declared.session.Change.{Change}
 use Rattle.first_machine.specs.declared.session.Change.TheVariants.{Nothing}
 use Rattle.first_machine.specs.Workbook.{Machine, is_state, node_of, tree, slots_in, target_in}
-use Rattle.first_machine.specs.Rounds.{Outcome, is_wide, sum_of, added, term_outcome, sum_from, sum_outcome, settled, shown}
+use Rattle.first_machine.specs.Rounds.{Outcome, sum_outcome, settled, shown}
 use Rattle.first_machine.specs.Act.{put_in, part_of, later, set_in, called, viewed, looked, acted, for_request, Act, request}
 use Rattle.first_machine.specs.Nodes.{AreShortNamed}
 use Rattle.first_machine.specs.Working.{Cells, value_in, work, part_in, place_in, Judges, Answers}
+use Rattle.first_machine.proofs.Faults.{HasFault, OutcomeHas, CellsHave, sum_has, push_has, value_has}
 use Rattle.first_machine.proofs.Settling.{work_means}
 
 pub short_named : (ds : List Declaration) → AllByRecursion (λ name. length name ≤ 63) (columns ds) → AreShortNamed ds
@@ -62,67 +58,32 @@ parts_mean m well same (s ∷ ss) =
 
 -- ---- the places of faults are columns
 
-abbrev IsResultWithin : ℕ → Result ℤ Fault → Type 0
-IsResultWithin count r = IsShownWithin count (shown r)
+abbrev AreWithin : ℕ → Cells → Type 0
+AreWithin count cells = CellsHave (IsFaultWithin count) cells
 
-abbrev IsOutcomeWithin : ℕ → Outcome → Type 0
-IsOutcomeWithin count None = Unit {0}
-IsOutcomeWithin count (Some r) = IsResultWithin count r
-
-module _ (count : ℕ) (f : List ℕ → Outcome) (p : Place) (names : (name : List ℕ) → IsOutcomeWithin count (f name)) (place : IsPlaceWithin count p) where
-  sum_of_within : (a b : ℤ) → IsResultWithin count (sum_of p a b)
-  sum_of_within a b = elim (is_wide (a +ℤ b)) as (λ fits. IsResultWithin count (if fits then Ok (a +ℤ b) else Err (Overflow p))) [ true ↦ tt | false ↦ place ]
-
-  added_within : (a b : Outcome) → IsOutcomeWithin count a → IsOutcomeWithin count b → IsOutcomeWithin count (added p a b)
-  added_within None b x y = tt
-  added_within (Some a) None x y = tt
-  added_within (Some (Err e)) (Some b) x y = x
-  added_within (Some (Ok a)) (Some (Err e)) x y = y
-  added_within (Some (Ok a)) (Some (Ok b)) x y = sum_of_within a b
-
-  term_within : (t : Term) → IsOutcomeWithin count (term_outcome f t)
-  term_within (term.Number n) = tt
-  term_within (term.Column name) = names name
-
-  from_within : (a : Outcome) (ts : List Term) → IsOutcomeWithin count a → IsOutcomeWithin count (sum_from f p a ts)
-  from_within a [] x = x
-  from_within a (t ∷ ts) x = from_within (added p a (term_outcome f t)) ts (added_within a (term_outcome f t) x (term_within t))
-
-  sum_within : (ts : List Term) → IsOutcomeWithin count (sum_outcome f p ts)
-  sum_within [] = tt
-  sum_within (t ∷ ts) = from_within (term_outcome f t) ts (term_within t)
-
-settled_within : (count : ℕ) (o : Outcome) → IsOutcomeWithin count o → IsResultWithin count (settled o)
+settled_within : (count : ℕ) (o : Outcome) → OutcomeHas (IsFaultWithin count) o → HasFault (IsFaultWithin count) (settled o)
 settled_within count None x = tt
 settled_within count (Some r) x = x
 
-abbrev AreWithin : ℕ → Cells → Type 0
-AreWithin count cells = AllByRecursion (λ (c : List ℕ × Result ℤ Fault). IsResultWithin count c.1) cells
-
-push_within : (count : ℕ) (cells : Cells) (c : List ℕ × Result ℤ Fault) → AreWithin count cells → IsResultWithin count c.1 → AreWithin count (cells ++ c ∷ [])
-push_within count [] c cells_in c_in = (c_in, tt)
-push_within count (x ∷ xs) c cells_in c_in = (cells_in.0, push_within count xs c cells_in.1 c_in)
-
-value_within : (count : ℕ) (cells : Cells) → AreWithin count cells → (name : List ℕ) → IsOutcomeWithin count (value_in cells name)
-value_within count [] cells_in name = tt
-value_within count (c ∷ cs) cells_in name =
-    elim (bytes_eq name c.0) as (λ same. IsOutcomeWithin count (if same then Some c.1 else value_in cs name)) [ true ↦ cells_in.0 | false ↦ value_within count cs cells_in.1 name ]
+shown_within : (count : ℕ) (r : Result ℤ Fault) → HasFault (IsFaultWithin count) r → IsShownWithin count (shown r)
+shown_within count (Ok z) x = tt
+shown_within count (Err e) x = x
 
 work_within : (count : ℕ) (cells : Cells) (ds : List Declaration) (zs : List ℤ) → AreWithin count cells → length cells + length (columns ds) < count → AreWithin count (work cells ds zs)
 work_within count cells [] zs cells_in few = cells_in
 work_within count cells (d ∷ ds) [] cells_in few = cells_in
 work_within count cells (State n first ∷ ds) (z ∷ zs) cells_in few =
-    work_within count (cells ++ (n, Ok z) ∷ []) ds zs (push_within count cells (n, Ok z) cells_in tt) (omega (arith, length-append cells ((n, Ok z) ∷ []), few))
+    work_within count (cells ++ (n, Ok z) ∷ []) ds zs (push_has (IsFaultWithin count) cells (n, Ok z) cells_in tt) (omega (arith, length-append cells ((n, Ok z) ∷ []), few))
 work_within count cells (Formula n sum ∷ ds) (z ∷ zs) cells_in few =
     let v = settled (sum_outcome (value_in cells) (Cell 0 (length cells + 1)) sum) in
-    let v_in = settled_within count (sum_outcome (value_in cells) (Cell 0 (length cells + 1)) sum) (sum_within count (value_in cells) (Cell 0 (length cells + 1)) (value_within count cells cells_in) (omega (arith, few)) sum) in
-    work_within count (cells ++ (n, v) ∷ []) ds zs (push_within count cells (n, v) cells_in v_in) (omega (arith, length-append cells ((n, v) ∷ []), few))
+    let v_in = settled_within count (sum_outcome (value_in cells) (Cell 0 (length cells + 1)) sum) (sum_has (IsFaultWithin count) (value_in cells) (Cell 0 (length cells + 1)) (value_has (IsFaultWithin count) cells cells_in) (omega (arith, few)) sum) in
+    work_within count (cells ++ (n, v) ∷ []) ds zs (push_has (IsFaultWithin count) cells (n, v) cells_in v_in) (omega (arith, length-append cells ((n, v) ∷ []), few))
 work_within count cells (Procedure n parameter target value ∷ ds) (z ∷ zs) cells_in few = work_within count cells ds zs cells_in few
 work_within count cells (View n slots ∷ ds) (z ∷ zs) cells_in few = work_within count cells ds zs cells_in few
 
 page_within : (count : ℕ) (cells : Cells) (slots : List Slot) → AreWithin count cells → All (IsPartWithin count) (map (part_in cells) slots)
 page_within count cells [] cells_in k d within = absurd (omega (arith, within))
-page_within count cells (s ∷ ss) cells_in zero d within = settled_within count (value_in cells s.column) (value_within count cells cells_in s.column)
+page_within count cells (s ∷ ss) cells_in zero d within = shown_within count (settled (value_in cells s.column)) (settled_within count (value_in cells s.column) (value_has (IsFaultWithin count) cells cells_in s.column))
 page_within count cells (s ∷ ss) cells_in (suc k) d within = page_within count cells ss cells_in k d (omega (arith, within))
 
 nodes_count : (ds : List Declaration) → length (filter_map node_of ds) ≡ length (columns ds)

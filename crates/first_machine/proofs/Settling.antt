@@ -1,5 +1,5 @@
 -- One pass in order gives each column its meaning.
-use Rattle.std.proofs.Common.{◌≡◌, refl, sym, ap, ◌∙◌, subst, inl, inr, ℕ, ℤ, zero, suc, ◌+◌, ◌≤◌, Bool, true, false, not, Some, None, Ok, Err, List, [], ◌∷◌, ◌++◌, length, map, length-append, arith}
+use Rattle.std.proofs.Common.{append_assoc, append-nil, ◌≡◌, refl, sym, ap, ◌∙◌, subst, inl, inr, ℕ, ℤ, zero, suc, ◌+◌, ◌≤◌, Bool, true, false, not, Some, None, Ok, Err, List, [], ◌∷◌, ◌++◌, length, map, length-append, arith}
 use Rattle.std.specs.Prelude.{Option, Result, is_some, option_and_then, ◌⊎◌, ◌&&◌}
 use Rattle.std.specs.Str.{bytes_eq}
 use Rattle.std.specs.List.{list_all, IsDistinct}
@@ -7,10 +7,12 @@ use Rattle.std.proofs.lemmas.Bool.{cases_Bool}
 use Rattle.std.proofs.lemmas.List.{map-append}
 use Rattle.std.proofs.lemmas.Slice.Eq.{bytes_eq-Decides}
 use Rattle.sheet_columns.specs.declared.fault.Fault.{Fault}
+use Rattle.sheet_columns.specs.declared.fault.Fault.TheVariants.{Cycle}
 use Rattle.sheet_columns.specs.declared.fault.Place.{Place}
 use Rattle.sheet_columns.specs.declared.fault.Place.TheVariants.{Cell}
 use Rattle.first_form.specs.declared.definition.Term.{Term}
 use Rattle.first_form.specs.declared.definition.Term.TheVariants as term
+use Rattle.first_form.specs.declared.definition.Slot.{Slot}
 use Rattle.first_form.specs.declared.definition.Declaration.{Declaration}
 use Rattle.first_form.specs.declared.definition.Declaration.TheVariants.{State, Formula, Procedure, View}
 use Rattle.first_form.specs.Names.{is_among, is_known_term, NamesDiffer, column_name, columns, IsWellNamed}
@@ -18,6 +20,8 @@ use Rattle.first_form.specs.Naming.{columns_fit}
 use Rattle.first_form.proofs.Choosing.{split_and, fit_complete, differ_complete}
 use Rattle.first_machine.specs.Workbook.{Machine, stored_in, sum_in, number_from}
 use Rattle.first_machine.specs.Rounds.{Outcome, sum_of, added, term_outcome, sum_from, sum_outcome, stored_or, column_over, place_of, table, formula_count, settled, meaning}
+use Rattle.first_machine.specs.Laws.{IsNoCycle, IsSettled, ColumnsSettle}
+use Rattle.first_machine.proofs.Faults.{HasFault, OutcomeHas, CellsHave, sum_has, push_has, value_has}
 use Rattle.first_machine.specs.Working.{Cells, value_in, work}
 
 -- ---- sums of parts that are all there
@@ -262,6 +266,25 @@ formula_pass m k cells n sum ds z zs v v_is pass =
           ];
     }
 
+-- what declares no column is passed over
+skipped_procedure : (m : Machine) (k : ℕ) (cells : Cells) (n parameter target value : List ℕ) (ds : List Declaration) (z : ℤ) (zs : List ℤ) → Pass m k cells (Procedure n parameter target value ∷ ds) (z ∷ zs) → Pass m k cells ds zs
+skipped_procedure m k cells n parameter target value ds z zs pass = record {
+  same = omega (arith, pass.same);
+  fit = pass.fit;
+  count = pass.count;
+  goes = λ other none. let g = pass.goes other none in record { stored = g.stored; sum = g.sum; number = g.number };
+  known = pass.known;
+}
+
+skipped_view : (m : Machine) (k : ℕ) (cells : Cells) (n : List ℕ) (slots : List Slot) (ds : List Declaration) (z : ℤ) (zs : List ℤ) → Pass m k cells (View n slots ∷ ds) (z ∷ zs) → Pass m k cells ds zs
+skipped_view m k cells n slots ds z zs pass = record {
+  same = omega (arith, pass.same);
+  fit = pass.fit;
+  count = pass.count;
+  goes = λ other none. let g = pass.goes other none in record { stored = g.stored; sum = g.sum; number = g.number };
+  known = pass.known;
+}
+
 passes : (m : Machine) (k : ℕ) (cells : Cells) (ds : List Declaration) (zs : List ℤ) → Pass m k cells ds zs → (name : List ℕ) → settled (value_in (work cells ds zs) name) ≡ meaning m name
 passes m k cells [] [] pass name = at_end m k cells name (value_in cells name) pass refl
 passes m k cells [] (z ∷ zs) pass name = absurd (omega (arith, pass.same))
@@ -269,24 +292,65 @@ passes m k cells (d ∷ ds) [] pass name = absurd (omega (arith, pass.same))
 passes m k cells (State n first ∷ ds) (z ∷ zs) pass name = passes m k (cells ++ (n, Ok z) ∷ []) ds zs (state_pass m k cells n first ds z zs pass) name
 passes m k cells (Formula n sum ∷ ds) (z ∷ zs) pass name =
     passes m (k + 1) (cells ++ (n, settled (sum_outcome (value_in cells) (Cell 0 (length cells + 1)) sum)) ∷ []) ds zs (formula_pass m k cells n sum ds z zs _ refl pass) name
-passes m k cells (Procedure n parameter target value ∷ ds) (z ∷ zs) pass name =
-    passes m k cells ds zs (record { same = omega (arith, pass.same); fit = pass.fit; count = pass.count; goes = λ other none. let g = pass.goes other none in record { stored = g.stored; sum = g.sum; number = g.number }; known = pass.known }) name
-passes m k cells (View n slots ∷ ds) (z ∷ zs) pass name =
-    passes m k cells ds zs (record { same = omega (arith, pass.same); fit = pass.fit; count = pass.count; goes = λ other none. let g = pass.goes other none in record { stored = g.stored; sum = g.sum; number = g.number }; known = pass.known }) name
+passes m k cells (Procedure n parameter target value ∷ ds) (z ∷ zs) pass name = passes m k cells ds zs (skipped_procedure m k cells n parameter target value ds z zs pass) name
+passes m k cells (View n slots ∷ ds) (z ∷ zs) pass name = passes m k cells ds zs (skipped_view m k cells n slots ds z zs pass) name
 
 none_differ : NamesDiffer []
 unfolding IsDistinct
 none_differ = tt
 
+first_pass : (m : Machine) → IsWellNamed m.book → length m.stored ≡ length m.book → Pass m 0 [] m.book m.stored
+first_pass m well same = record {
+  same = same;
+  fit = fit_complete [] m.book (differ_complete column_name [] m.book none_differ well.columns_differ) well.earlier;
+  count = omega arith;
+  goes = λ other none. record { stored = refl; sum = refl; number = refl };
+  known = λ j le other r is. cc;
+}
+
 -- the cells that are worked out in order have their meaning
 pub work_means : (m : Machine) → IsWellNamed m.book → length m.stored ≡ length m.book → (name : List ℕ) → settled (value_in (work [] m.book m.stored) name) ≡ meaning m name
-work_means m well same name =
-    passes m 0 [] m.book m.stored
-    (record {
-      same = same;
-      fit = fit_complete [] m.book (differ_complete column_name [] m.book none_differ well.columns_differ) well.earlier;
-      count = omega arith;
-      goes = λ other none. record { stored = refl; sum = refl; number = refl };
-      known = λ j le other r is. cc;
-    })
-    name
+work_means m well same name = passes m 0 [] m.book m.stored (first_pass m well same) name
+
+-- ---- each column is settled, and not by a cycle
+
+sum_settled : (m : Machine) (k : ℕ) (cells : Cells) (n : List ℕ) (sum : List Term) (ds : List Declaration) (z : ℤ) (zs : List ℤ) → Pass m k cells (Formula n sum ∷ ds) (z ∷ zs) → CellsHave IsNoCycle cells
+    → HasFault IsNoCycle (settled (sum_outcome (value_in cells) (Cell 0 (length cells + 1)) sum))
+sum_settled m k cells n sum ds z zs pass clean =
+    let p = Cell 0 (length cells + 1) in
+    let parts = split_and (list_all (is_known_term (names_of cells)) sum && not (is_among (names_of cells) n)) (columns_fit (names_of cells ++ n ∷ []) ds) pass.fit in
+    let first = split_and (list_all (is_known_term (names_of cells)) sum) (not (is_among (names_of cells) n)) parts.0 in
+    let agree : Agree (value_in cells) (value_in cells) (names_of cells) = λ other there. let v = some_of (value_in cells other) (sym (among_is cells other) ∙ there) in (v.0, v.1, v.1) in
+    let r = sum_known (value_in cells) (value_in cells) p (names_of cells) agree sum first.0 in
+    let has = sum_has IsNoCycle (value_in cells) p (value_has IsNoCycle cells clean) (λ e. cc) sum in
+    subst (λ o. HasFault IsNoCycle (settled o)) (sym r.1) (subst (OutcomeHas IsNoCycle) r.1 has)
+
+not_cycle : (r : Result ℤ Fault) → HasFault IsNoCycle r → r ≡ Err Cycle → ⊥
+not_cycle (Ok z) has e = cc
+not_cycle (Err f) has e = let is : f ≡ Cycle = cc in has is
+
+pushed_among : (cells : Cells) (n : List ℕ) (v : Result ℤ Fault) (ns : List (List ℕ)) (name : List ℕ) → is_among (names_of cells ++ n ∷ ns) name ≡ true → is_among (names_of (cells ++ (n, v) ∷ []) ++ ns) name ≡ true
+pushed_among cells n v ns name e =
+    subst (λ l. is_among l name ≡ true)
+    (sym (append_assoc (names_of cells) (n ∷ []) ns) ∙ ap (λ l. l ++ ns) (sym (map-append (λ c. c.0) cells ((n, v) ∷ [])))) e
+
+settles : (m : Machine) (k : ℕ) (cells : Cells) (ds : List Declaration) (zs : List ℤ) → Pass m k cells ds zs → CellsHave IsNoCycle cells → (name : List ℕ) → is_among (names_of cells ++ columns ds) name ≡ true → IsSettled m name
+settles m k cells [] [] pass clean name there =
+    let v = some_of (value_in cells name) (sym (among_is cells name) ∙ subst (λ l. is_among l name ≡ true) (append-nil (names_of cells)) there) in
+    record {
+      result = v.0;
+      no_cycle = not_cycle v.0 (subst (OutcomeHas IsNoCycle) v.1 (value_has IsNoCycle cells clean name));
+      always = λ j le. pass.known j (omega (arith, pass.count, le)) name v.0 v.1;
+    }
+settles m k cells [] (z ∷ zs) pass clean name there = absurd (omega (arith, pass.same))
+settles m k cells (d ∷ ds) [] pass clean name there = absurd (omega (arith, pass.same))
+settles m k cells (State n first ∷ ds) (z ∷ zs) pass clean name there =
+    settles m k (cells ++ (n, Ok z) ∷ []) ds zs (state_pass m k cells n first ds z zs pass) (push_has IsNoCycle cells (n, Ok z) clean tt) name (pushed_among cells n (Ok z) (columns ds) name there)
+settles m k cells (Formula n sum ∷ ds) (z ∷ zs) pass clean name there =
+    let v = settled (sum_outcome (value_in cells) (Cell 0 (length cells + 1)) sum) in
+    settles m (k + 1) (cells ++ (n, v) ∷ []) ds zs (formula_pass m k cells n sum ds z zs v refl pass) (push_has IsNoCycle cells (n, v) clean (sum_settled m k cells n sum ds z zs pass clean)) name (pushed_among cells n v (columns ds) name there)
+settles m k cells (Procedure n parameter target value ∷ ds) (z ∷ zs) pass clean name there = settles m k cells ds zs (skipped_procedure m k cells n parameter target value ds z zs pass) clean name there
+settles m k cells (View n slots ∷ ds) (z ∷ zs) pass clean name there = settles m k cells ds zs (skipped_view m k cells n slots ds z zs pass) clean name there
+
+pub columns_settle : ColumnsSettle
+columns_settle m well same name there = settles m 0 [] m.book m.stored (first_pass m well same) tt name there

@@ -4,3 +4,4 @@ pub mod Act
 pub mod Run
 pub mod Working
 pub mod Nodes
+pub mod Laws

@@ -104,10 +104,11 @@ impl Session {
     /// One step: the reply to a request line, without its LF. All memory is taken before anything changes.
     ///
     /// A line over 65,536 bytes is `LaterForm`; what is no JSON is `NotJson`; anything else that isn't accepted is
-    /// `LaterForm`. Want of memory is `Refused(NoMemory)`. A refused line changes nothing.
+    /// `LaterForm`. Want of memory is `Refused(NoMemory)`. A refused line changes nothing, and the definition stays.
     pub fn answer(&mut self, alloc: Global, line: &[u8]) -> Answered
         ensures step { Step self.old line.now result.reply self.new }
         ensures text { HasText self.old.book result.reply result.line.items }
+        ensures book { self.new.book ≡ self.old.book }
     {
         match self.judged_line(alloc, line) {
             Ok((reply, text, change)) => {
@@ -122,7 +123,8 @@ impl Session {
     }
 
     fn apply(&mut self, change: Change)
-        ensures { self.new ≡ changed self.old change }
+        ensures changed { self.new ≡ changed self.old change }
+        ensures book { self.new.book ≡ self.old.book }
     {
         if let Change::Put {
             place,

@@ -1,4 +1,4 @@
-use crate::{LONGEST_REQUEST, Session};
+use crate::{LONGEST_REQUEST, Session, columns_settle};
 use first_form::read_first_form;
 use std::alloc::Global;
 use std::test::Fail;
@@ -26,6 +26,7 @@ const LOOK: &[u8] = b"{\"key\":\"op\",\"see\":\"v\",\"with\":[]}";
 
 #[test]
 fn a_number_is_put_and_shown(rt: HostRuntime) -> Result<(), Fail> {
+    columns_settle();
     let alloc = rt.alloc();
     let mut session = start(alloc, FIRST)?;
     let put = b"{\"do\":\"put\",\"key\":\"op\",\"number\":1,\"with\":[41]}";
