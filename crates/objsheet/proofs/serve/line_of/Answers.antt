@@ -1,0 +1,8 @@
+use Rattle.std.proofs.Common.{◌≡◌, rules, sym, ap, ◌∙◌, refl}
+use Rattle.serde_json.proofs.OnLiterals.{serde_json_on_literals}
+use Rattle.first_machine.specs.Run.{written_line}
+use Rattle.objsheet.proofs.serve.line_of.Goals as goal
+
+pub returns-in-Refused-NoMemory : goal.returns-in-Refused-NoMemory
+unfolding serde_json_on_literals
+returns-in-Refused-NoMemory c = λ book has. search rules

@@ -1,0 +1,4 @@
+pub mod Answers
+pub mod Trying
+pub mod Serving
+pub mod Stops
