@@ -1,20 +1,20 @@
 -- The whole command, from its parts.
-use Rattle.std.proofs.Common.{◌≡◌, ◌≢◌, ℕ, ◌<◌, ◌≤◌, ◌+◌, ◌-◌, ◌^◌, List, [], ◌∷◌, ◌++◌, length, take, drop, Some, None, Ok, Err, refl, inl, inr, sym, ap, ◌∙◌, subst, append_assoc, append-nil, arith}
-use Rattle.std.specs.Prelude.{Option, ◌⊎◌, nat_lt, option_map}
+use Rattle.std.proofs.Common.{◌≡◌, ◌≢◌, ℕ, ◌<◌, ◌≤◌, ◌+◌, ◌-◌, ◌^◌, List, [], ◌∷◌, ◌++◌, length, take, drop, Some, None, refl, inl, inr, sym, ap, ◌∙◌, subst, append_assoc, append-nil, arith}
+use Rattle.std.specs.Prelude.{Option, ◌⊎◌, nat_lt}
 use Rattle.std.proofs.lemmas.Bool.{cases_Bool, ltb-true, ltb-false}
 use Rattle.std.proofs.lemmas.List.{length-append, take-append-drop}
 use Rattle.sheet_outside.specs.Told.{WhereTold}
 use Rattle.sheet_lines.specs.Lines.{lines, ended, all_said}
-use Rattle.sheet_lines.specs.Division.{definition_of, lines_behind, requests_of, ended_requests_of}
+use Rattle.sheet_lines.specs.Division.{definition_of, requests_of, ended_requests_of}
 use Rattle.sheet_lines.specs.Dividing.{Divides, StopsDividing}
 use Rattle.sheet_lines.specs.Reading.{HasNoFeed}
 use Rattle.sheet_lines.specs.Told.{Ends, both, GainsFront}
 use Rattle.sheet_lines.specs.Unread.{Unread, rest}
 use Rattle.first_form.specs.FirstForm.{IsFirstForm}
 use Rattle.first_form.specs.declared.definition.Declaration.{Declaration}
-use Rattle.first_machine.specs.Workbook.{Machine, start}
+use Rattle.first_machine.specs.Workbook.{Machine}
 use Rattle.objsheet.specs.Answers.{Tells, Answers}
-use Rattle.objsheet.specs.Serving.{IsCut, Serves, ServesLines, ServesAll, Stops, Breaks}
+use Rattle.objsheet.specs.Serving.{IsCut, ServesAll, Stops, Breaks}
 use Rattle.objsheet.specs.Stops.{Opens, IsLongerYet}
 use Rattle.objsheet.specs.Trying.{IsOther, IsDone, IsRead, IsStopped, IsBrokenOff, IsRefused, Whole, first_requests, too_long, later_form}
 use Rattle.objsheet.specs.Trying.Whole.{other, done, longer}

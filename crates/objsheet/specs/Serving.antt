@@ -1,5 +1,5 @@
 -- The loop over request lines, step by step.
-use Rattle.std.specs.Prelude.{◌≡◌, ℕ, ◌⊎◌, List, [], ◌∷◌, ◌++◌}
+use Rattle.std.specs.Prelude.{◌≡◌, ℕ, ◌⊎◌, List, [], ◌++◌}
 use Rattle.sheet_lines.specs.Lines.{lines, ended, all_said, unless_empty}
 use Rattle.sheet_lines.specs.Reading.{HasNoFeed}
 use Rattle.sheet_lines.specs.Told.{Ends, GainsFront}

@@ -38,11 +38,7 @@ pub fn attempt<S: Source, K: Sink>(alloc: Global, input: &mut S, output: &mut K)
 }
 
 // Reads the definition, and makes its starting workbook.
-fn open<S: Source>(
-    alloc: Global,
-    reader: &mut LineReader,
-    input: &mut S,
-) -> Result<Session, Stop>
+fn open<S: Source>(alloc: Global, reader: &mut LineReader, input: &mut S) -> Result<Session, Stop>
     requires { reader.old.used ≡ 0 }
     ensures opened { IfOk result (λ session. WhereTold (Opens session) (rest reader.old (S.left input.old)) (rest reader.new (S.left input.new))) }
     ensures other { IsErrOf result Stop.LaterForm → WhereTold (λ old new. IsOther old) (rest reader.old (S.left input.old)) (rest reader.new (S.left input.new)) }

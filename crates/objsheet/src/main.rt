@@ -30,6 +30,5 @@ fn words(rt: &HostRuntime) -> io::Result<Vec<Vec<u8>>> {
     Ok(words)
 }
 
-
 #[cfg(test)]
 mod tests;

@@ -76,7 +76,7 @@ fn is_usage(alloc: Global, given: &[&[u8]]) -> Result<bool, Fail> {
 // A line with blanks behind it, up to that length.
 fn padded(alloc: Global, line: &[u8], length: usize) -> Result<Vec<u8>, Fail> {
     let mut bytes = line.to_vec(alloc)?;
-    while bytes.len() < length {
+    for _ in line.len()..length {
         bytes.push(b' ')?;
     }
     Ok(bytes)
@@ -104,7 +104,14 @@ fn the_ends_of_lines(rt: HostRuntime) -> Result<(), Fail> {
 #[test]
 fn what_is_no_json(rt: HostRuntime) -> Result<(), Fail> {
     let input = [DEFINITION, b"%%\n{\n", LOOK];
-    assert!(rt; tries(rt.alloc(), &input, DONE, &[b"{\"error\":\"not json\"}\n", BEFORE])?);
+    assert!(rt;
+        tries(
+            rt.alloc(),
+            &input,
+            DONE,
+            &[b"{\"error\":\"not json\"}\n", BEFORE]
+        )?
+    );
     Ok(())
 }
 
@@ -113,9 +120,21 @@ fn the_longest_line(rt: HostRuntime) -> Result<(), Fail> {
     let alloc = rt.alloc();
     let longest = padded(alloc, LOOK, 65_536)?;
     let longer = padded(alloc, LOOK, 65_537)?;
-    let input = [DEFINITION, b"%%\n", longest.as_slice(), b"\r\n", longer.as_slice()];
+    let input = [
+        DEFINITION,
+        b"%%\n",
+        longest.as_slice(),
+        b"\r\n",
+        longer.as_slice(),
+    ];
     assert!(rt; tries(alloc, &input, DONE, &[BEFORE, LATER])?);
-    let input = [DEFINITION, b"%%\n", longer.as_slice(), b"\n", longest.as_slice()];
+    let input = [
+        DEFINITION,
+        b"%%\n",
+        longer.as_slice(),
+        b"\n",
+        longest.as_slice(),
+    ];
     assert!(rt; tries(alloc, &input, DONE, &[LATER, BEFORE])?);
     Ok(())
 }
@@ -148,7 +167,14 @@ fn each_read_fails(rt: HostRuntime) -> Result<(), Fail> {
     let alloc = rt.alloc();
     let put = padded(alloc, PUT, 20_000)?;
     let look = padded(alloc, LOOK, 20_000)?;
-    let input = [DEFINITION, b"%%\n", put.as_slice(), b"\n", look.as_slice(), b"\n"];
+    let input = [
+        DEFINITION,
+        b"%%\n",
+        put.as_slice(),
+        b"\n",
+        look.as_slice(),
+        b"\n",
+    ];
     assert!(rt; fails(alloc, &input, 1, 0, SOURCE_FAILED, &[])?);
     assert!(rt; fails(alloc, &input, 2, 0, SOURCE_FAILED, &[])?);
     assert!(rt; fails(alloc, &input, 3, 0, SOURCE_FAILED, &[ACCEPTED])?);

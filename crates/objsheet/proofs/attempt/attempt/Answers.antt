@@ -1,5 +1,4 @@
-use Rattle.std.proofs.Common.{◌≡◌, rules, sym, ap, ◌∙◌, refl, subst, List, ℕ, Ok, Err}
-use Rattle.sheet_lines.specs.Unread.{rest}
+use Rattle.std.proofs.Common.{◌≡◌, rules, sym, ◌∙◌, Err}
 use Rattle.objsheet.proofs.Turns.{on_ok, stopped_at, same_error}
 use Rattle.objsheet.proofs.Trying.{tried_done, tried_read, tried_longer, tried_longer_input, tried_stopped, tried_broken, tried_starved, open_stopped, open_other}
 use Rattle.objsheet.proofs.attempt.attempt.Goals as goal

@@ -1,5 +1,4 @@
-use Rattle.std.proofs.Common.{◌≡◌, rules, sym, ap, ◌∙◌, refl, subst, List, ℕ, Ok, Some, None}
-use Rattle.std.specs.Prelude.{Option}
+use Rattle.std.proofs.Common.{subst, List, ℕ}
 use Rattle.sheet_lines.specs.Unread.{rest}
 use Rattle.first_form.specs.FirstForm.{IsFirstForm}
 use Rattle.first_form.specs.declared.definition.Declaration.{Declaration}

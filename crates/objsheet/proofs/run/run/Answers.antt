@@ -1,4 +1,4 @@
-use Rattle.std.proofs.Common.{◌≡◌, rules, sym, ap, ◌∙◌, refl, subst, List, ℕ, Err}
+use Rattle.std.proofs.Common.{ap, subst, List, ℕ, Err}
 use Rattle.std.specs.Prelude.{Option}
 use Rattle.sheet_outside.specs.Told.{WhereTold}
 use Rattle.sheet_lines.specs.Told.{GainsFront}

@@ -1,6 +1,5 @@
-use Rattle.std.proofs.Common.{◌≡◌, rules, sym, ap, ◌∙◌, refl}
+use Rattle.std.proofs.Common.{rules}
 use Rattle.serde_json.proofs.OnLiterals.{serde_json_on_literals}
-use Rattle.first_machine.specs.Run.{written_line}
 use Rattle.objsheet.proofs.serve.line_of.Goals as goal
 
 pub returns-in-Refused-NoMemory : goal.returns-in-Refused-NoMemory

@@ -1,7 +1,4 @@
-use Rattle.std.proofs.Common.{◌≡◌, rules, sym, ap, ◌∙◌, refl, subst, List, ℕ, arith}
-use Rattle.sheet_outside.specs.Told.{WhereTold}
-use Rattle.first_machine.specs.Run.{written_line}
-use Rattle.objsheet.specs.Serving.{Replies, RepliesInPart}
+use Rattle.std.proofs.Common.{sym, ◌∙◌}
 use Rattle.objsheet.proofs.Turns.{some_bytes, replied, replied_in_part, on_ok, on_err}
 use Rattle.objsheet.proofs.serve.reply.Goals as goal
 

@@ -1,4 +1,4 @@
-use Rattle.std.proofs.Common.{◌≡◌, rules, ◌+◌, sym, ap, ◌∙◌, refl, subst, List, ℕ, length, Err, arith}
+use Rattle.std.proofs.Common.{◌≡◌, rules, sym, ◌∙◌, Err, arith}
 use Rattle.sheet_lines.specs.Unread.{rest}
 use Rattle.sheet_lines.specs.Told.{both}
 use Rattle.objsheet.proofs.Turns.{lines_then, all_then, stops_then, breaks_then, counts_then, stopped_by, same_error}

@@ -1,4 +1,4 @@
-use Rattle.std.proofs.Common.{◌≡◌, rules, sym, ap, ◌∙◌, refl, subst, List, ℕ}
+use Rattle.std.proofs.Common.{ap, ◌∙◌, subst, List, ℕ}
 use Rattle.std.specs.Str.Lines.{strip_carriage_return}
 use Rattle.sheet_outside.specs.Told.{WhereTold}
 use Rattle.sheet_lines.specs.Unread.{rest}
