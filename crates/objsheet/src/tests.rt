@@ -163,7 +163,17 @@ fn words_that_are_no_command(rt: HostRuntime) -> Result<(), Fail> {
 }
 
 #[test]
-fn each_read_fails(rt: HostRuntime) -> Result<(), Fail> {
+fn each_read_of_the_first_run_fails(rt: HostRuntime) -> Result<(), Fail> {
+    let alloc = rt.alloc();
+    let input = [DEFINITION, b"%%\n", PUT, b"\n", LOOK, b"\n"];
+    assert!(rt; fails(alloc, &input, 1, 0, SOURCE_FAILED, &[])?);
+    assert!(rt; fails(alloc, &input, 2, 0, SOURCE_FAILED, &[ACCEPTED, AFTER])?);
+    assert!(rt; fails(alloc, &input, 3, 0, DONE, &[ACCEPTED, AFTER])?);
+    Ok(())
+}
+
+#[test]
+fn each_read_of_long_lines_fails(rt: HostRuntime) -> Result<(), Fail> {
     let alloc = rt.alloc();
     let put = padded(alloc, PUT, 20_000)?;
     let look = padded(alloc, LOOK, 20_000)?;
