@@ -1,0 +1,12 @@
+pub mod Births
+pub mod Lookups
+pub mod SetRows
+pub mod Existing
+pub mod WithSet
+pub mod Back
+pub mod Setting
+pub mod WithObject
+pub mod Newborn
+pub mod Bearing
+pub mod Born
+pub mod Starting
