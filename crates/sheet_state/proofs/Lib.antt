@@ -10,3 +10,9 @@ pub mod Newborn
 pub mod Bearing
 pub mod Born
 pub mod Starting
+pub mod Sweeping
+pub mod Family
+pub mod Without
+pub mod Gone
+pub mod Rid
+pub mod Told

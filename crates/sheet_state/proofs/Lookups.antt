@@ -62,14 +62,14 @@ first_passes p (y ∷ ys) zero x f = subst (λ z. p z ≡ true) f.0 f.1
 first_passes p (y ∷ ys) (suc k) x f = first_passes p ys k x f.1
 
 -- the set of a row that passes is what the cell holds
-set_first : (o c : ℕ) (r : SetRow) (rest : List StoredCell) → is_set o c r ≡ true → set_in (cons_option (live_cell r) rest) o c ≡ r.set
+pub set_first : (o c : ℕ) (r : SetRow) (rest : List StoredCell) → is_set o c r ≡ true → set_in (cons_option (live_cell r) rest) o c ≡ r.set
 set_first o c r rest e =
     elim r.live as (λ b. (b && (r.object == o && r.column == c)) ≡ true → set_in (cons_option (if b then Some (record { object = r.object; column = r.column; set = r.set }) else None) rest) o c ≡ r.set) [
       | true ↦ λ h. ap (λ t. if t then r.set else set_in rest o c) h
       | false ↦ λ h. cc
     ] e
 
-set_skip : (o c : ℕ) (r : SetRow) (rest : List StoredCell) → is_set o c r ≡ false → set_in (cons_option (live_cell r) rest) o c ≡ set_in rest o c
+pub set_skip : (o c : ℕ) (r : SetRow) (rest : List StoredCell) → is_set o c r ≡ false → set_in (cons_option (live_cell r) rest) o c ≡ set_in rest o c
 set_skip o c r rest e =
     elim r.live as (λ b. (b && (r.object == o && r.column == c)) ≡ false → set_in (cons_option (if b then Some (record { object = r.object; column = r.column; set = r.set }) else None) rest) o c ≡ set_in rest o c) [
       | true ↦ λ h. ap (λ t. if t then r.set else set_in rest o c) h

@@ -40,7 +40,7 @@ tied_rows : (r q : SetRow) → r.object ≡ q.object → r.column ≡ q.column �
 tied_rows r q e f = ap (λ x. ordering_then x (nat_cmp r.column q.column)) (ties r.object q.object e) ∙ ties r.column q.column f
 
 -- a row above another isn't that of the same object and column
-apart : (o c : ℕ) (r q : SetRow) → at o c r ≡ true → row_cmp r q ≡ Less → at o c q ≡ false
+pub apart : (o c : ℕ) (r q : SetRow) → at o c r ≡ true → row_cmp r q ≡ Less → at o c q ≡ false
 apart o c r q e lt =
     elim (at o c q) as (λ b. at o c q ≡ b → b ≡ false) [
       | true ↦ λ t.

@@ -2,3 +2,4 @@ pub mod Kept
 pub mod Limits
 pub mod Rows
 pub mod Births
+pub mod Deaths

@@ -2,6 +2,7 @@
 #![tactic(auto)]
 
 mod birth;
+mod death;
 mod lookup;
 mod refusal;
 mod state;

@@ -8,16 +8,18 @@ ghost use Rattle.sheet_objects.specs.Rows.{with_cells, with_counters};
 ghost use Rattle.sheet_values.specs.Order.{value_cmp};
 ghost use Rattle.sheet_values.specs.Sorted.{insert};
 ghost use Rattle.sheet_values.specs.declared.value.Value.TheVariants.{Object};
-ghost use Rattle.sheet_meaning.specs.Changes.{with_set, with_object};
+ghost use Rattle.sheet_meaning.specs.Changes.{with_set, with_object, without_object};
 ghost use Rattle.sheet_meaning.specs.Workbook.{object_at, column_in, parent_in, children_in, set_in};
 ghost use Rattle.sheet_meaning.specs.WellFormed.{HoldsKind};
 ghost use Rattle.sheet_state.specs.Births.{born, born_items};
+ghost use Rattle.sheet_state.specs.Deaths.{rid_of, rid_items};
 ghost use Rattle.sheet_state.specs.Kept.{IsKept, AreChanged, schema_of, book, start};
 ghost use Rattle.sheet_state.specs.Rows.{object_of, objects_in, cells_in};
 ghost use Rattle.sheet_state.specs.Limits.{full_of, first_full, Refuses};
 
 use crate::StateRefusal;
 use crate::birth::{add_rows, weight_of};
+use crate::death::{be_rid_of, family_of};
 use crate::lookup::{object_place, set_place};
 use sheet_columns::{Columns, Item, Items};
 use sheet_meaning::Which;
@@ -184,6 +186,23 @@ impl State {
             after,
         )?;
         Ok((counters.next, items))
+    }
+
+    /// Takes a live object other than the root away, with every object below it, and every reference to them out of all state
+    /// cells; the items whose content this changed. Nothing changes after the refusal.
+    pub fn delete(&mut self, columns: &Columns, object: u64) -> Result<Items, NoMemory>
+        requires kept { IsKept columns.now self.old }
+        requires live { IsSome (object_at self.old.present.state.objects object) }
+        requires not_root { 0 < object }
+        ensures state { OnOk result (self.new.present.state ≡ without_object self.old.present.state object) }
+        ensures changed { IfOk result (λ items. AreChanged self.old.present.state self.new.present.state items) }
+        ensures earlier { OnOk result (self.new.earlier ≡ self.old.earlier ++ self.old.present ∷ []) }
+        ensures unchanged { OnErr result (self.new ≡ self.old) }
+        ensures kept { IsKept columns.now self.new }
+    {
+        let doomed = family_of(self.alloc, self.tables.objects(), object)?;
+        let items = take_away(self.alloc, &mut self.tables, columns, &doomed)?;
+        Ok(items)
     }
 
     /// The mark of this time. It is good until the state is undone to before it, or forgets.
@@ -417,6 +436,29 @@ fn put_row(
             tables.count(counters);
             Ok(())
         }
+        Err(refusal) => {
+            tables.undo_to(mark);
+            Err(refusal)
+        }
+    }
+}
+
+// Takes these objects out of all rows, as a change of its own; the items that this changes. Nothing changes after the refusal.
+fn take_away(
+    alloc: Global,
+    tables: &mut Tables,
+    columns: &Columns,
+    doomed: &Set,
+) -> Result<Items, NoMemory>
+    ensures present { OnOk result (tables.new.present ≡ rid_of columns.now doomed.now tables.old.present) }
+    ensures items { IfOk result (λ items. items ≡ rid_items doomed.now tables.old.present) }
+    ensures earlier { OnOk result (tables.new.earlier ≡ tables.old.earlier ++ tables.old.present ∷ []) }
+    ensures err { OnErr result (tables.new ≡ tables.old) }
+{
+    let mark = tables.mark();
+    tables.begin()?;
+    match be_rid_of(alloc, tables, columns, doomed) {
+        Ok(items) => Ok(items),
         Err(refusal) => {
             tables.undo_to(mark);
             Err(refusal)
