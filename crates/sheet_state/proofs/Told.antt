@@ -1,0 +1,372 @@
+-- The items that a deletion changes.
+use Rattle.std.proofs.Common.{◌≡◌, refl, sym, ap, ◌∙◌, subst, ℕ, ◌+◌, ◌-◌, ◌<◌, ◌≤◌, zero, suc, Bool, true, false, cond, List, [], ◌∷◌, ◌++◌, length, arith, Option, Some, None, eq-eqb, inl, inr}
+use Rattle.std.specs.Prelude.{not, nat_lt, ◌==◌, ◌&&◌, ◌||◌, if◌then◌else◌, map, filter, is_some}
+use Rattle.std.specs.List.{flat_map, cons_option, list_any, AllByRecursion}
+use Rattle.std.specs.declared.cmp.Ordering.{Ordering}
+use Rattle.std.specs.declared.cmp.Ordering.TheVariants.{Less, Equal, Greater}
+use Rattle.std.specs.Ordering.{is_eq, nat_cmp}
+use Rattle.std.proofs.lemmas.Bool.{eqb-true, lt-ltb, le-ltb, cases_lt}
+use Rattle.std.proofs.lemmas.List.{nil_from_length}
+use Rattle.std.proofs.lemmas.List.Folds.{list_any-append}
+use Rattle.sheet_values.specs.Sorted.{IsBelow, IsRising, contains as holds}
+use Rattle.sheet_values.specs.Sets.{contains, minus}
+use Rattle.sheet_values.specs.declared.value.Value.{Value}
+use Rattle.sheet_values.specs.declared.value.Value.TheVariants.{Object}
+use Rattle.sheet_columns.specs.ItemOrder.{item_cmp}
+use Rattle.sheet_columns.specs.declared.item.Item.{Item}
+use Rattle.sheet_columns.specs.declared.item.Item.TheVariants.{Live, Up, Extent, Stored}
+use Rattle.sheet_columns.specs.declared.tree.Node.{Node}
+use Rattle.sheet_objects.specs.Rows.{Table}
+use Rattle.sheet_objects.specs.declared.row.ObjectRow.{ObjectRow}
+use Rattle.sheet_objects.specs.declared.row.SetRow.{SetRow}
+use Rattle.sheet_meaning.specs.Changes.{has_number, family, without_object}
+use Rattle.sheet_meaning.specs.Formula.{sets_equal}
+use Rattle.sheet_meaning.specs.Items.{numbers_equal, is_changed}
+use Rattle.sheet_meaning.specs.Workbook.{object_at, column_in, parent_in, children_in, set_in}
+use Rattle.sheet_meaning.specs.declared.workbook.LiveObject.{LiveObject}
+use Rattle.sheet_meaning.specs.declared.workbook.StoredCell.{StoredCell}
+use Rattle.sheet_meaning.specs.declared.workbook.State.{State}
+use Rattle.sheet_state.specs.Births.{with_items}
+use Rattle.sheet_state.specs.Deaths.{doomed_in, is_doomed, buried_items, up_items, swept, swept_items, lost, rid_of, rid_items}
+use Rattle.sheet_state.specs.Kept.{IsMoment, AreChanged}
+use Rattle.sheet_state.specs.Rows.{live_object, live_cell, object_cmp, object_of, objects_in, cells_in, state_of, moment, row_cmp, is_set, IsSound}
+use Rattle.sheet_state.proofs.Family.{Knows, knows_number, doomed_known}
+use Rattle.sheet_state.proofs.Lookups.{set_first, set_skip}
+use Rattle.sheet_state.proofs.Newborn.{has_items}
+use Rattle.sheet_state.proofs.SetRows.{at, apart, passes, key_is}
+use Rattle.sheet_state.proofs.Rid.{swept_key, state_rid, children_rid}
+use Rattle.sheet_state.proofs.Without.{found_left, differs, nat_less, filter_short}
+use Rattle.sheet_state.proofs.WithSet.{item_is, item_itself, numbers_same, sets_are, sets_same, sets_differ}
+
+abbrev among : Item → List Item → Bool
+among x ys = list_any (λ y. is_eq (item_cmp x y)) ys
+
+not_item : (i j : Item) → (i ≡ j → ⊥) → is_eq (item_cmp i j) ≡ false
+not_item i j ne = elim (is_eq (item_cmp i j)) as (λ b. is_eq (item_cmp i j) ≡ b → b ≡ false) [ true ↦ λ e. absurd (ne (item_is i j e)) | false ↦ λ e. refl ] refl
+
+among_append : (i : Item) (xs ys : List Item) → among i (xs ++ ys) ≡ (among i xs || among i ys)
+among_append i xs ys = list_any-append (λ y. is_eq (item_cmp i y)) xs ys
+
+-- an item of another kind is in none of the items of rows
+none_in : {A : Type 0} (i : Item) (f : A → List Item) → ((a : A) → among i (f a) ≡ false) → (us : List A) → among i (flat_map f us) ≡ false
+none_in i f gives [] = refl
+none_in i f gives (a ∷ us) = among_append i (f a) (flat_map f us) ∙ ap (λ b. b || among i (flat_map f us)) (gives a) ∙ none_in i f gives us
+
+one_item : (i j : Item) (b : Bool) → (i ≡ j → ⊥) → among i (if b then j ∷ [] else []) ≡ false
+one_item i j true ne = ap (λ b. b || false) (not_item i j ne)
+one_item i j false ne = refl
+
+or_false : (b : Bool) → (b || false) ≡ b
+or_false true = refl
+or_false false = refl
+
+-- objects that go
+module _ (d : List Value) (ns : List ℕ) (k : Knows d ns) (m : ℕ) where
+  abbrev live_test : ObjectRow → Bool
+  live_test r = r.live && has_number ns r.number
+
+  is_test : (r : ObjectRow) → is_doomed d r ≡ live_test r
+  is_test r = ap (λ b. r.live && b) (knows_number d ns k r.number)
+
+  number_item : (n : ℕ) → is_eq (item_cmp (Live m) (Live n)) ≡ (n == m)
+  number_item n =
+      elim (n == m) as (λ b. (n == m) ≡ b → is_eq (item_cmp (Live m) (Live n)) ≡ b) [
+        | true ↦ λ e. subst (λ j. is_eq (item_cmp (Live m) (Live j)) ≡ true) (sym (eqb-true n m e)) (item_itself (Live m))
+        | false ↦ λ e. not_item (Live m) (Live n) (λ h. let same : m ≡ n = cc in let t : (n == m) ≡ true = eq-eqb n m (sym same) in cc)
+      ] refl
+
+  up_item : (n : ℕ) → is_eq (item_cmp (Up m) (Up n)) ≡ (n == m)
+  up_item n =
+      elim (n == m) as (λ b. (n == m) ≡ b → is_eq (item_cmp (Up m) (Up n)) ≡ b) [
+        | true ↦ λ e. subst (λ j. is_eq (item_cmp (Up m) (Up j)) ≡ true) (sym (eqb-true n m e)) (item_itself (Up m))
+        | false ↦ λ e. not_item (Up m) (Up n) (λ h. let same : m ≡ n = cc in let t : (n == m) ≡ true = eq-eqb n m (sym same) in cc)
+      ] refl
+
+  no_up : (n : ℕ) (p : Option ℕ) → among (Live m) (up_items n p) ≡ false
+  no_up n None = refl
+  no_up n (Some q) = ap (λ b. b || false) (not_item (Live m) (Up n) (λ h. cc))
+
+  live_row : (r : ObjectRow) → among (Live m) (buried_items d r) ≡ (live_test r && r.number == m)
+  live_row r = ap (λ b. among (Live m) (if b then Live r.number ∷ up_items r.number r.parent else [])) (is_test r) ∙ of_test (live_test r)
+    where
+      of_test : (b : Bool) → among (Live m) (if b then Live r.number ∷ up_items r.number r.parent else []) ≡ (b && r.number == m)
+      of_test true = ap (λ b. is_eq (item_cmp (Live m) (Live r.number)) || b) (no_up r.number r.parent) ∙ or_false (is_eq (item_cmp (Live m) (Live r.number))) ∙ number_item r.number
+      of_test false = refl
+
+  up_row : (r : ObjectRow) → among (Up m) (buried_items d r) ≡ (live_test r && (r.number == m && is_some r.parent))
+  up_row r = ap (λ b. among (Up m) (if b then Live r.number ∷ up_items r.number r.parent else [])) (is_test r) ∙ of_test (live_test r)
+    where
+      of_parent : (p : Option ℕ) → among (Up m) (up_items r.number p) ≡ (r.number == m && is_some p)
+      of_parent None = sym (and_false (r.number == m))
+        where
+          and_false : (b : Bool) → (b && false) ≡ false
+          and_false true = refl
+          and_false false = refl
+      of_parent (Some q) = or_false (is_eq (item_cmp (Up m) (Up r.number))) ∙ up_item r.number ∙ sym (and_true (r.number == m))
+        where
+          and_true : (b : Bool) → (b && true) ≡ b
+          and_true true = refl
+          and_true false = refl
+
+      of_test : (b : Bool) → among (Up m) (if b then Live r.number ∷ up_items r.number r.parent else []) ≡ (b && (r.number == m && is_some r.parent))
+      of_test true = ap (λ b. b || among (Up m) (up_items r.number r.parent)) (not_item (Up m) (Live r.number) (λ h. cc)) ∙ of_parent r.parent
+      of_test false = refl
+
+  and_false : (b : Bool) → (b && false) ≡ false
+  and_false true = refl
+  and_false false = refl
+
+  abbrev of_found : (LiveObject → Bool) → Option LiveObject → Bool
+  of_found g None = false
+  of_found g (Some x) = g x
+
+  none_later : (r : ObjectRow) (rows : List ObjectRow) → r.number ≡ m → IsBelow object_cmp r rows → object_at (objects_in rows) m ≡ None
+  none_later r [] e b = refl
+  none_later r (q ∷ rows) e b =
+      let less : r.number < q.number = nat_less r.number q.number b.0 in
+      let miss : (q.number == m) ≡ false = differs q.number m (λ h. omega arith) in
+      elim q.live as (λ l. object_at (cons_option (if l then Some (object_of q) else None) (objects_in rows)) m ≡ None) [
+        | true ↦ ap (λ t. if t then Some (object_of q) else object_at (objects_in rows) m) miss ∙ none_later r rows e b.1
+        | false ↦ none_later r rows e b.1
+      ]
+
+  -- one row more
+  joined : (g : LiveObject → Bool) (r : ObjectRow) (rows : List ObjectRow) → IsBelow object_cmp r rows → (l e h : Bool) → r.live ≡ l → (r.number == m) ≡ e → has_number ns m ≡ h → ((live_test r && (r.number == m && g (object_of r))) || (has_number ns m && of_found g (object_at (objects_in rows) m))) ≡ (has_number ns m && of_found g (object_at (cons_option (live_object r) (objects_in rows)) m))
+  joined g r rows below true true h live same is =
+      let number = eqb-true r.number m same in
+      let test : live_test r ≡ h = ap (λ b. b && has_number ns r.number) live ∙ ap (has_number ns) number ∙ is in
+      ap (λ b. (b && (r.number == m && g (object_of r))) || (has_number ns m && of_found g (object_at (objects_in rows) m))) test
+      ∙ ap (λ b. (h && (b && g (object_of r))) || (has_number ns m && of_found g (object_at (objects_in rows) m))) same
+      ∙ ap (λ q. (h && g (object_of r)) || (has_number ns m && of_found g q)) (none_later r rows number below)
+      ∙ ap (λ b. (h && g (object_of r)) || b) (and_false (has_number ns m))
+      ∙ or_false (h && g (object_of r))
+      ∙ ap (λ b. b && g (object_of r)) (sym is)
+      ∙ sym (ap (λ b. has_number ns m && of_found g (object_at (cons_option (if b then Some (object_of r) else None) (objects_in rows)) m)) live ∙ ap (λ b. has_number ns m && of_found g (if b then Some (object_of r) else object_at (objects_in rows) m)) same)
+  joined g r rows below true false h live same is =
+      ap (λ b. (live_test r && (b && g (object_of r))) || (has_number ns m && of_found g (object_at (objects_in rows) m))) same
+      ∙ ap (λ b. b || (has_number ns m && of_found g (object_at (objects_in rows) m))) (and_false (live_test r))
+      ∙ sym (ap (λ b. has_number ns m && of_found g (object_at (cons_option (if b then Some (object_of r) else None) (objects_in rows)) m)) live ∙ ap (λ b. has_number ns m && of_found g (if b then Some (object_of r) else object_at (objects_in rows) m)) same)
+  joined g r rows below false e h live same is =
+      ap (λ b. ((b && has_number ns r.number) && (r.number == m && g (object_of r))) || (has_number ns m && of_found g (object_at (objects_in rows) m))) live
+      ∙ sym (ap (λ b. has_number ns m && of_found g (object_at (cons_option (if b then Some (object_of r) else None) (objects_in rows)) m)) live)
+
+  -- an object's item is told where the object is live and goes
+  pub told : (i : Item) (g : LiveObject → Bool) → ((r : ObjectRow) → among i (buried_items d r) ≡ (live_test r && (r.number == m && g (object_of r)))) → (rows : List ObjectRow) → IsRising object_cmp rows → among i (flat_map (buried_items d) rows) ≡ (has_number ns m && of_found g (object_at (objects_in rows) m))
+  told i g row [] rising = sym (and_false (has_number ns m))
+  told i g row (r ∷ rows) rising =
+      among_append i (buried_items d r) (flat_map (buried_items d) rows)
+      ∙ ap (λ b. b || among i (flat_map (buried_items d) rows)) (row r)
+      ∙ ap (λ b. (live_test r && (r.number == m && g (object_of r))) || b) (told i g row rows rising.1)
+      ∙ joined g r rows rising.0 r.live (r.number == m) (has_number ns m) refl refl refl
+
+  live_told : (rows : List ObjectRow) → IsRising object_cmp rows → among (Live m) (flat_map (buried_items d) rows) ≡ not (numbers_equal (column_in (object_at (objects_in rows) m)) (column_in (if has_number ns m then None else object_at (objects_in rows) m)))
+  live_told rows rising = told (Live m) (λ x. true) (λ r. live_row r ∙ ap (λ b. live_test r && b) (sym (and_true (r.number == m)))) rows rising ∙ at (has_number ns m) (object_at (objects_in rows) m)
+    where
+      and_true : (b : Bool) → (b && true) ≡ b
+      and_true true = refl
+      and_true false = refl
+
+      at : (h : Bool) (q : Option LiveObject) → (h && of_found (λ x. true) q) ≡ not (numbers_equal (column_in q) (column_in (if h then None else q)))
+      at true None = refl
+      at true (Some x) = refl
+      at false q = sym (ap not (numbers_same (column_in q)))
+
+  up_told : (rows : List ObjectRow) → IsRising object_cmp rows → among (Up m) (flat_map (buried_items d) rows) ≡ not (numbers_equal (parent_in (object_at (objects_in rows) m)) (parent_in (if has_number ns m then None else object_at (objects_in rows) m)))
+  up_told rows rising = told (Up m) (λ x. is_some x.parent) up_row rows rising ∙ at (has_number ns m) (object_at (objects_in rows) m)
+    where
+      of_parent : (p : Option ℕ) → is_some p ≡ not (numbers_equal p None)
+      of_parent None = refl
+      of_parent (Some n) = refl
+
+      at : (h : Bool) (q : Option LiveObject) → (h && of_found (λ x. is_some x.parent) q) ≡ not (numbers_equal (parent_in q) (parent_in (if h then None else q)))
+      at true None = refl
+      at true (Some x) = of_parent x.parent
+      at false q = sym (ap not (numbers_same (parent_in q)))
+
+-- a list that isn't longer tells by its length whether it differs
+lost_tells : (xs ys : List Value) → length ys ≤ length xs → (length xs ≡ length ys → ys ≡ xs) → nat_lt 0 (length xs - length ys) ≡ not (sets_equal xs ys)
+lost_tells xs ys short same =
+    elim (sets_equal xs ys) as (λ b. sets_equal xs ys ≡ b → nat_lt 0 (length xs - length ys) ≡ not b) [
+      | true ↦ λ e. let equal = ap length (sets_are xs ys e) in le-ltb 0 (length xs - length ys) (omega arith)
+      | false ↦ λ e. lt-ltb 0 (length xs - length ys) (elim (cases_lt (length ys) (length xs)) [
+        | inl lt ↦ omega arith
+        | inr ge ↦ let equal : length xs ≡ length ys = omega arith in let t : sets_equal xs ys ≡ true = subst (λ l. sets_equal xs l ≡ true) (sym (same equal)) (sets_same xs) in absurd (let clash : true ≡ false = sym t ∙ e in cc)
+      ])
+    ] refl
+
+same_filter : (p : Value → Bool) (xs : List Value) → length xs ≡ length (filter p xs) → filter p xs ≡ xs
+same_filter p [] e = refl
+same_filter p (x ∷ xs) e =
+    elim (p x) as (λ b. suc (length xs) ≡ length (cond b (x ∷ filter p xs) (filter p xs)) → cond b (x ∷ filter p xs) (filter p xs) ≡ x ∷ xs) [
+      | true ↦ λ h. ap (λ l. x ∷ l) (same_filter p xs (omega arith))
+      | false ↦ λ h. let short = filter_short p xs in absurd (omega arith)
+    ] e
+
+lost_by : (d : List Value) (r : SetRow) (b c : Bool) → nat_lt 0 (length r.set - length (if b then (if c then record r { live = false; set = [] } else record r { set = minus r.set d }) else r).set) ≡ not (sets_equal r.set (if b then (if c then record r { live = false; set = [] } else record r { set = minus r.set d }) else r).set)
+lost_by d r true true = lost_tells r.set [] (omega arith) (λ e. sym (nil_from_length r.set e))
+lost_by d r true false = lost_tells r.set (minus r.set d) (filter_short (λ v. not (contains v d)) r.set) (λ e. same_filter (λ v. not (contains v d)) r.set e)
+lost_by d r false c = lost_tells r.set r.set (omega arith) (λ e. refl)
+
+lost_is : (d : List Value) (r : SetRow) → nat_lt 0 (lost d r) ≡ not (sets_equal r.set (swept d r).set)
+lost_is d r = lost_by d r r.live (contains (Object r.object) d)
+
+-- sets that lose what goes
+module _ (item : ℕ → ℕ → Item) (inside : (a b x y : ℕ) → item a b ≡ item x y → (a ≡ x) × (b ≡ y)) (d : List Value) (m c : ℕ) where
+  row_missed : (r : SetRow) → is_set m c r ≡ false → (a b : Bool) → is_set m c (if a then (if b then record r { live = false; set = [] } else record r { set = minus r.set d }) else r) ≡ false
+  row_missed r e true true = refl
+  row_missed r e true false = e
+  row_missed r e false b = e
+
+  swept_missed : (r : SetRow) → is_set m c r ≡ false → is_set m c (swept d r) ≡ false
+  swept_missed r e = row_missed r e r.live (contains (Object r.object) d)
+
+  not_set : (r : SetRow) → at m c r ≡ false → is_set m c r ≡ false
+  not_set r e = ap (λ b. r.live && b) e ∙ never r.live
+    where
+      never : (b : Bool) → (b && false) ≡ false
+      never true = refl
+      never false = refl
+
+  other_item : (r : SetRow) → at m c r ≡ false → item m c ≡ item r.object r.column → ⊥
+  other_item r e h =
+      let same = inside m c r.object r.column h in
+      let t : at m c r ≡ true = ap (λ b. b && r.column == c) (eq-eqb r.object m (sym same.0)) ∙ eq-eqb r.column c (sym same.1) in
+      cc
+
+  -- no row above one of this cell is another of it
+  record NoMore (rows : List SetRow) : Type 0 where
+    none : set_in (cells_in rows) m c ≡ []
+    none_swept : set_in (cells_in (map (swept d) rows)) m c ≡ []
+    not_told : among (item m c) (flat_map (swept_items item d) rows) ≡ false
+
+  no_more : (r : SetRow) (rows : List SetRow) → at m c r ≡ true → IsBelow row_cmp r rows → NoMore rows
+  no_more r [] e b = record { none = refl; none_swept = refl; not_told = refl }
+  no_more r (q ∷ rows) e b =
+      let rest = no_more r rows e b.1 in
+      let far : at m c q ≡ false = apart m c r q e b.0 in
+      let miss = not_set q far in
+      record {
+        none = set_skip m c q (cells_in rows) miss ∙ rest.none;
+        none_swept = set_skip m c (swept d q) (cells_in (map (swept d) rows)) (swept_missed q miss) ∙ rest.none_swept;
+        not_told =
+            among_append (item m c) (swept_items item d q) (flat_map (swept_items item d) rows)
+            ∙ ap (λ b. b || among (item m c) (flat_map (swept_items item d) rows)) (one_item (item m c) (item q.object q.column) (nat_lt 0 (lost d q)) (other_item q far))
+            ∙ rest.not_told;
+      }
+
+  found_swept : (r : SetRow) (rest : List StoredCell) → is_set m c r ≡ true → set_in rest m c ≡ [] → (b : Bool) → set_in (cons_option (live_cell (if b then record r { live = false; set = [] } else record r { set = minus r.set d })) rest) m c ≡ (if b then record r { live = false; set = [] } else record r { set = minus r.set d }).set
+  found_swept r rest e none true = none
+  found_swept r rest e none false = set_first m c (record r { set = minus r.set d }) rest e
+
+  pub sets_told : (rows : List SetRow) → IsRising row_cmp rows → among (item m c) (flat_map (swept_items item d) rows) ≡ not (sets_equal (set_in (cells_in rows) m c) (set_in (cells_in (map (swept d) rows)) m c))
+  sets_told [] rising = refl
+  sets_told (r ∷ rows) rising =
+      among_append (item m c) (swept_items item d r) (flat_map (swept_items item d) rows)
+      ∙ elim (is_set m c r) as (λ b. is_set m c r ≡ b → (among (item m c) (swept_items item d r) || among (item m c) (flat_map (swept_items item d) rows)) ≡ not (sets_equal (set_in (cells_in (r ∷ rows)) m c) (set_in (cells_in (map (swept d) (r ∷ rows))) m c))) [
+        | true ↦ λ e.
+            let p = passes m c r e in
+            let rest = no_more r rows p.1 rising.0 in
+            let keyed = key_is m c r p.1 in
+            let same : item r.object r.column ≡ item m c = ap (λ n. item n r.column) keyed.0 ∙ ap (item m) keyed.1 in
+            let is : swept d r ≡ (if contains (Object r.object) d then record r { live = false; set = [] } else record r { set = minus r.set d }) = ap (λ b. if b then (if contains (Object r.object) d then record r { live = false; set = [] } else record r { set = minus r.set d }) else r) p.0 in
+            ap (λ b. among (item m c) (swept_items item d r) || b) rest.not_told
+            ∙ or_false (among (item m c) (swept_items item d r))
+            ∙ ap (λ j. among (item m c) (if nat_lt 0 (lost d r) then j ∷ [] else [])) same
+            ∙ itself (nat_lt 0 (lost d r))
+            ∙ lost_is d r
+            ∙ ap (λ l. not (sets_equal l (swept d r).set)) (sym (set_first m c r (cells_in rows) e))
+            ∙ ap (λ l. not (sets_equal (set_in (cells_in (r ∷ rows)) m c) l))
+            (sym (ap (λ (q : SetRow). set_in (cons_option (live_cell q) (cells_in (map (swept d) rows))) m c) is
+            ∙ found_swept r (cells_in (map (swept d) rows)) e rest.none_swept (contains (Object r.object) d)
+            ∙ ap (λ (q : SetRow). q.set) (sym is)))
+        | false ↦ λ e.
+            ap (λ b. b || among (item m c) (flat_map (swept_items item d) rows)) (silent r e r.live refl)
+            ∙ sets_told rows rising.1
+            ∙ ap (λ l. not (sets_equal l (set_in (cells_in (map (swept d) rows)) m c))) (sym (set_skip m c r (cells_in rows) e))
+            ∙ ap (λ l. not (sets_equal (set_in (cells_in (r ∷ rows)) m c) l)) (sym (set_skip m c (swept d r) (cells_in (map (swept d) rows)) (swept_missed r e)))
+      ] refl
+    where
+      itself : (b : Bool) → among (item m c) (if b then item m c ∷ [] else []) ≡ b
+      itself true = ap (λ b. b || false) (item_itself (item m c))
+      itself false = refl
+
+      silent : (q : SetRow) → is_set m c q ≡ false → (l : Bool) → q.live ≡ l → among (item m c) (swept_items item d q) ≡ false
+      silent q e true live = one_item (item m c) (item q.object q.column) (nat_lt 0 (lost d q)) (other_item q (ap (λ b. b && at m c q) (sym live) ∙ e))
+      silent q e false live =
+          let is : swept d q ≡ q = ap (λ b. if b then (if contains (Object q.object) d then record q { live = false; set = [] } else record q { set = minus q.set d }) else q) live in
+          let none : nat_lt 0 (lost d q) ≡ false = lost_is d q ∙ ap (λ (p : SetRow). not (sets_equal q.set p.set)) is ∙ ap not (sets_same q.set) in
+          ap (λ b. among (item m c) (if b then item q.object q.column ∷ [] else [])) none
+
+extents_apart : (a b x y : ℕ) → Extent a b ≡ Extent x y → (a ≡ x) × (b ≡ y)
+extents_apart a b x y h = let one : a ≡ x = cc in let two : b ≡ y = cc in (one, two)
+
+cells_apart : (a b x y : ℕ) → Stored a b ≡ Stored x y → (a ≡ x) × (b ≡ y)
+cells_apart a b x y h = let one : a ≡ x = cc in let two : b ≡ y = cc in (one, two)
+
+module _ (nodes : List Node) (t : Table) (sound : IsSound t) (w : IsMoment nodes (moment t)) (o : ℕ) (positive : 0 < o) where
+  abbrev d : List Value
+  d = doomed_in t.objects o
+
+  abbrev ns : List ℕ
+  ns = family (objects_in t.objects) o
+
+  abbrev k : Knows d ns
+  k = doomed_known t.objects o
+
+  abbrev s' : State
+  s' = without_object (state_of t) o
+
+  has : (i : Item) → holds item_cmp i (rid_items d t) ≡ (among i (flat_map (swept_items Extent d) t.extents) || (among i (flat_map (swept_items Stored d) t.cells) || (among i (flat_map (buried_items d) t.objects) || false)))
+  has i =
+      has_items i (with_items (with_items [] (flat_map (buried_items d) t.objects)) (flat_map (swept_items Stored d) t.cells)) (flat_map (swept_items Extent d) t.extents)
+      ∙ ap (λ b. among i (flat_map (swept_items Extent d) t.extents) || b)
+      (has_items i (with_items [] (flat_map (buried_items d) t.objects)) (flat_map (swept_items Stored d) t.cells)
+      ∙ ap (λ b. among i (flat_map (swept_items Stored d) t.cells) || b) (has_items i [] (flat_map (buried_items d) t.objects)))
+
+  no_sets : (i : Item) (item : ℕ → ℕ → Item) → ((a b : ℕ) → i ≡ item a b → ⊥) → (rows : List SetRow) → among i (flat_map (swept_items item d) rows) ≡ false
+  no_sets i item ne rows = none_in i (swept_items item d) (λ r. one_item i (item r.object r.column) (nat_lt 0 (lost d r)) (ne r.object r.column)) rows
+
+  no_objects : (i : Item) → ((n : ℕ) → i ≡ Live n → ⊥) → ((n : ℕ) → i ≡ Up n → ⊥) → among i (flat_map (buried_items d) t.objects) ≡ false
+  no_objects i live up = none_in i (buried_items d) (λ r. at_row r (is_doomed d r)) t.objects
+    where
+      at_parent : (n : ℕ) (p : Option ℕ) → among i (up_items n p) ≡ false
+      at_parent n None = refl
+      at_parent n (Some p) = ap (λ b. b || false) (not_item i (Up n) (up n))
+
+      at_row : (r : ObjectRow) (b : Bool) → among i (if b then Live r.number ∷ up_items r.number r.parent else []) ≡ false
+      at_row r true = ap (λ b. b || among i (up_items r.number r.parent)) (not_item i (Live r.number) (live r.number)) ∙ at_parent r.number r.parent
+      at_row r false = refl
+
+  abbrev told_by : Bool → Bool → Bool → Bool
+  told_by e c b = e || (c || (b || false))
+
+  pub rid_changed : AreChanged (state_of t) s' (rid_items d t)
+  rid_changed (Live m) =
+      has (Live m)
+      ∙ ap (λ b. told_by b (among (Live m) (flat_map (swept_items Stored d) t.cells)) (among (Live m) (flat_map (buried_items d) t.objects))) (no_sets (Live m) Extent (λ a b h. cc) t.extents)
+      ∙ ap (λ b. told_by false b (among (Live m) (flat_map (buried_items d) t.objects))) (no_sets (Live m) Stored (λ a b h. cc) t.cells)
+      ∙ or_false (among (Live m) (flat_map (buried_items d) t.objects))
+      ∙ live_told d ns k m t.objects sound.objects
+      ∙ ap (λ q. not (numbers_equal (column_in (object_at (objects_in t.objects) m)) (column_in q))) (sym (found_left ns (objects_in t.objects) m))
+  rid_changed (Up m) =
+      has (Up m)
+      ∙ ap (λ b. told_by b (among (Up m) (flat_map (swept_items Stored d) t.cells)) (among (Up m) (flat_map (buried_items d) t.objects))) (no_sets (Up m) Extent (λ a b h. cc) t.extents)
+      ∙ ap (λ b. told_by false b (among (Up m) (flat_map (buried_items d) t.objects))) (no_sets (Up m) Stored (λ a b h. cc) t.cells)
+      ∙ or_false (among (Up m) (flat_map (buried_items d) t.objects))
+      ∙ up_told d ns k m t.objects sound.objects
+      ∙ ap (λ q. not (numbers_equal (parent_in (object_at (objects_in t.objects) m)) (parent_in q))) (sym (found_left ns (objects_in t.objects) m))
+  rid_changed (Extent m c) =
+      has (Extent m c)
+      ∙ ap (λ b. told_by (among (Extent m c) (flat_map (swept_items Extent d) t.extents)) b (among (Extent m c) (flat_map (buried_items d) t.objects))) (no_sets (Extent m c) Stored (λ a b h. cc) t.cells)
+      ∙ ap (λ b. told_by (among (Extent m c) (flat_map (swept_items Extent d) t.extents)) false b) (no_objects (Extent m c) (λ n h. cc) (λ n h. cc))
+      ∙ or_false (among (Extent m c) (flat_map (swept_items Extent d) t.extents))
+      ∙ sets_told Extent extents_apart d m c t.extents sound.extents
+      ∙ ap (λ l. not (sets_equal l (set_in (cells_in (map (swept d) t.extents)) m c))) (sound.children m c)
+      ∙ ap (λ l. not (sets_equal (children_in (objects_in t.objects) m c) l)) (children_rid nodes t sound w o positive m c ∙ ap (λ (u : State). children_in u.objects m c) (state_rid nodes t sound w o positive))
+  rid_changed (Stored m c) =
+      has (Stored m c)
+      ∙ ap (λ b. told_by b (among (Stored m c) (flat_map (swept_items Stored d) t.cells)) (among (Stored m c) (flat_map (buried_items d) t.objects))) (no_sets (Stored m c) Extent (λ a b h. cc) t.extents)
+      ∙ ap (λ b. told_by false (among (Stored m c) (flat_map (swept_items Stored d) t.cells)) b) (no_objects (Stored m c) (λ n h. cc) (λ n h. cc))
+      ∙ ap (λ b. false || b) (or_false (among (Stored m c) (flat_map (swept_items Stored d) t.cells)))
+      ∙ sets_told Stored cells_apart d m c t.cells sound.cells
+      ∙ ap (λ (u : State). not (sets_equal (set_in (cells_in t.cells) m c) (set_in u.cells m c))) (state_rid nodes t sound w o positive)

@@ -1,0 +1,91 @@
+-- The rows after objects are gone.
+use Rattle.std.specs.Prelude.{ℕ, ◌+◌, ◌-◌, ◌==◌, ◌&&◌, ◌||◌, nat_lt, slice_index_or, Bool, true, false, if◌then◌else◌, List, [], ◌∷◌, ◌++◌, map, fold, length, sum_by, Option, Some, None}
+use Rattle.std.specs.List.{flat_map}
+use Rattle.sheet_values.specs.Sets.{contains, insert, minus}
+use Rattle.sheet_values.specs.declared.value.Value.{Value}
+use Rattle.sheet_values.specs.declared.value.Value.TheVariants.{Object}
+use Rattle.sheet_columns.specs.declared.item.Item.{Item}
+use Rattle.sheet_columns.specs.declared.item.Item.TheVariants.{Live, Up, Extent, Stored}
+use Rattle.sheet_columns.specs.declared.tree.Node.{Node}
+use Rattle.sheet_objects.specs.Rows.{Table, with_objects, with_cells, with_extents, with_counters}
+use Rattle.sheet_objects.specs.declared.row.Counters.{Counters}
+use Rattle.sheet_objects.specs.declared.row.ObjectRow.{ObjectRow}
+use Rattle.sheet_objects.specs.declared.row.SetRow.{SetRow}
+use Rattle.sheet_meaning.specs.WellFormed.{state_columns}
+use Rattle.sheet_state.specs.Births.{with_items, formula_columns}
+use Rattle.sheet_state.specs.Kept.{schema_of}
+
+-- whether a parent is one of these objects
+abbrev pub is_under : List Value → Option ℕ → Bool
+is_under d None = false
+is_under d (Some p) = contains (Object p) d
+
+-- with the object of a row, where it is this object or stands under one of these
+abbrev pub doomed_with : ℕ → List Value → ObjectRow → List Value
+doomed_with o d r = if r.live && (r.number == o || is_under d r.parent) then insert (Object r.number) d else d
+
+-- an object and all below it, among rows in which parents come first
+abbrev pub doomed_in : List ObjectRow → ℕ → List Value
+doomed_in rows o = fold (doomed_with o) [] rows
+
+-- whether a row is that of a live object among these
+abbrev pub is_doomed : List Value → ObjectRow → Bool
+is_doomed d r = r.live && contains (Object r.number) d
+
+-- the row of an object when these are gone
+abbrev pub buried : List Value → ObjectRow → ObjectRow
+buried d r = if is_doomed d r then record r { live = false } else r
+
+-- the row of a set when these are gone
+abbrev pub swept : List Value → SetRow → SetRow
+swept d r =
+    if r.live then (if contains (Object r.object) d then record r { live = false; set = [] } else record r { set = minus r.set d })
+    else r
+
+-- the row at a place
+abbrev pub object_row : List ObjectRow → ℕ → ObjectRow
+object_row rows k = slice_index_or rows k (record { number = 0; column = 0; parent = None; live = false })
+
+abbrev pub set_row : List SetRow → ℕ → SetRow
+set_row rows k = slice_index_or rows k (record { object = 0; column = 0; live = false; set = [] })
+
+-- how many values go from a row
+abbrev pub lost : List Value → SetRow → ℕ
+lost d r = length r.set - length (swept d r).set
+
+abbrev pub up_items : ℕ → Option ℕ → List Item
+up_items o None = []
+up_items o (Some p) = Up o ∷ []
+
+-- the items that an object's going changes
+abbrev pub buried_items : List Value → ObjectRow → List Item
+buried_items d r = if is_doomed d r then Live r.number ∷ up_items r.number r.parent else []
+
+-- the item of a set that changes
+abbrev pub swept_items : (ℕ → ℕ → Item) → List Value → SetRow → List Item
+swept_items item d r = if nat_lt 0 (lost d r) then item r.object r.column ∷ [] else []
+
+-- how many cells go with a row
+abbrev pub lost_cells : List Node → List Value → ObjectRow → ℕ
+lost_cells nodes d r = if is_doomed d r then length (state_columns (schema_of nodes) r.column) + length (formula_columns nodes r.column) else 0
+
+abbrev pub lost_objects : List Value → ObjectRow → ℕ
+lost_objects d r = if is_doomed d r then 1 else 0
+
+-- the counters when these are gone
+abbrev pub counted_without : List Node → List Value → Table → Counters
+counted_without nodes d t = record {
+  next = t.counters.next;
+  objects = t.counters.objects - sum_by (lost_objects d) t.objects;
+  cells = t.counters.cells - sum_by (lost_cells nodes d) t.objects;
+  values = t.counters.values - sum_by (lost d) t.cells;
+}
+
+-- the table when these are gone
+abbrev pub rid_of : List Node → List Value → Table → Table
+rid_of nodes d t = with_counters (with_extents (with_cells (with_objects t (map (buried d) t.objects)) (map (swept d) t.cells)) (map (swept d) t.extents)) (counted_without nodes d t)
+
+-- the items that this changes
+abbrev pub rid_items : List Value → Table → List Item
+rid_items d t =
+    with_items (with_items (with_items [] (flat_map (buried_items d) t.objects)) (flat_map (swept_items Stored d) t.cells)) (flat_map (swept_items Extent d) t.extents)

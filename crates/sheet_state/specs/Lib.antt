@@ -1,0 +1,5 @@
+pub mod Kept
+pub mod Limits
+pub mod Rows
+pub mod Births
+pub mod Deaths
