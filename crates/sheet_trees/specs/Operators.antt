@@ -49,3 +49,12 @@ prefix_sign prefix.Not = sign.Not
 abbrev pub prefixed : Prefix → ℕ → Tree → Tree
 prefixed prefix.Minus line e = tree.Negate line e
 prefixed prefix.Not line e = tree.Not line e
+
+-- how tightly the operators of a level bind
+abbrev pub level_rank : Level → ℕ
+level_rank level.Or = 5
+level_rank level.And = 4
+level_rank level.Comparison = 3
+level_rank level.Sets = 2
+level_rank level.Sums = 1
+level_rank level.Products = 0

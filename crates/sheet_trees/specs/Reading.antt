@@ -1,6 +1,6 @@
 -- Reading a formula from the left: what stands at the front of a list of tokens, and the tokens behind it.
 -- That these are the formulas of the productions is proved.
-use Rattle.std.specs.Prelude.{◌≡◌, ℕ, ◌+◌, zero, suc, max, List, [], ◌∷◌, ◌++◌, length, Bool, true, false, ◌==◌, nat_lt, if◌then◌else◌, Option, Some, None, Result, Ok, Err}
+use Rattle.std.specs.Prelude.{ℕ, ◌+◌, ◌-◌, zero, suc, max, List, [], ◌∷◌, ◌++◌, length, Bool, true, false, ◌==◌, nat_lt, if◌then◌else◌, Option, Some, None, Result, Ok, Err}
 use Rattle.sheet_tokens.specs.declared.token.Token.{Token}
 use Rattle.sheet_tokens.specs.declared.token.TokenKind.{TokenKind}
 use Rattle.sheet_tokens.specs.declared.token.TokenKind.TheVariants as kind
@@ -36,13 +36,14 @@ abbrev pub ◌>>=◌ : {A B : Type 0} → Answer A → (A → Answer B) → Answ
 (Ok x) >>= f = f x
 (Err e) >>= f = Err e
 
--- How formulas are read: the greatest depth, the text's length, how many brackets may still be opened, and how what
--- stands in a bracket is read.
+-- How formulas are read: the greatest depth, the text's length, how many brackets may still be opened, and how an
+-- expression inside a bracket and one inside an if are read.
 pub record Setting : Type 0 where
   pub limit : ℕ
   pub end : ℕ
   pub room : ℕ
   pub inner : Reader
+  pub nested : Reader
 
 -- where the first token begins, or the text ends
 abbrev pub offset : ℕ → List Token → ℕ
@@ -109,17 +110,33 @@ leaf line (kind.Number n) = Some (tree.Number line n)
 leaf line (kind.Text text) = Some (tree.Text line text)
 leaf line (kind.Symbol symbol) = leaf_of line (sign_of (kind.Symbol symbol))
 
+-- the forms with several parts, which begin at a token
+abbrev pub gather : ℕ → Token → Gathering → Formed → List ℕ → Formed → Answer Formed
+gather limit t g f name source = made limit t.start (tree.Gather t.line g f.tree name source.tree) (max f.depth source.depth)
+
+abbrev pub gather_where : ℕ → Token → Gathering → Formed → List ℕ → Formed → Formed → Answer Formed
+gather_where limit t g f name source p = made limit t.start (tree.GatherWhere t.line g f.tree name source.tree p.tree) (max f.depth (max source.depth p.depth))
+
+abbrev pub test : ℕ → Token → Quantifier → List ℕ → Formed → Formed → Answer Formed
+test limit t q name source p = made limit t.start (tree.Test t.line q name source.tree p.tree) (max source.depth p.depth)
+
+abbrev pub call : ℕ → Token → Function → Formed → Answer Formed
+call limit t f x = made limit t.start (tree.Call t.line f x.tree) x.depth
+
+abbrev pub choice : ℕ → Token → Formed → Formed → Formed → Answer Formed
+choice limit t c x y = made limit t.start (tree.If t.line c.tree x.tree y.tree) (max c.depth (max x.depth y.depth))
+
 -- what stands behind the source of a comprehension or a sum
 unfoldable pub closed : Setting → Gathering → Sign → Token → Formed → List ℕ → Formed → List Token → Answer (Formed × List Token)
 closed s g close t f name source ts =
     expect s.end close ts >>= (λ rest.
-    with_rest rest (made s.limit t.start (tree.Gather t.line g f.tree name source.tree) (max f.depth source.depth)))
+    with_rest rest (gather s.limit t g f name source))
 
 unfoldable pub closed_where : Setting → Gathering → Sign → Token → Formed → List ℕ → Formed → List Token → Answer (Formed × List Token)
 closed_where s g close t f name source ts =
     s.inner ts >>= (λ p.
     expect s.end close p.1 >>= (λ rest.
-    with_rest rest (made s.limit t.start (tree.GatherWhere t.line g f.tree name source.tree p.0.tree) (max f.depth (max source.depth p.0.depth)))))
+    with_rest rest (gather_where s.limit t g f name source p.0)))
 
 abbrev pub conditioned : Setting → Gathering → Sign → Token → Formed → List ℕ → Formed → List Token → Option (List Token) → Answer (Formed × List Token)
 conditioned s g close t f name source ts None = closed s g close t f name source ts
@@ -149,14 +166,14 @@ tested s q t ts =
     expect s.end sign.Bar source.1 >>= (λ c.
     s.inner c >>= (λ p.
     expect s.end sign.Close p.1 >>= (λ rest.
-    with_rest rest (made s.limit t.start (tree.Test t.line q name.0 source.0.tree p.0.tree) (max source.0.depth p.0.depth)))))))))
+    with_rest rest (test s.limit t q name.0 source.0 p.0))))))))
 
 unfoldable pub called : Setting → Function → Token → List Token → Answer (Formed × List Token)
 called s f t ts =
     opened s sign.Open ts >>= (λ a.
     s.inner a >>= (λ x.
     expect s.end sign.Close x.1 >>= (λ rest.
-    with_rest rest (made s.limit t.start (tree.Call t.line f x.0.tree) x.0.depth))))
+    with_rest rest (call s.limit t f x.0))))
 
 -- behind the parts so far of a set in braces, at a token of that sign
 abbrev pub parts_by : Setting → Token → List Tree → ℕ → Token → List Token → Sign → (List Tree → ℕ → List Token → Answer (Formed × List Token)) → Answer (Formed × List Token)
@@ -165,26 +182,26 @@ parts_by s t trees deepest u ts sign.Comma more = s.inner ts >>= (λ x. more (tr
 parts_by s t trees deepest u ts _ more = Err (Expected u.start)
 
 -- behind the parts so far of a set in braces, of which the deepest has that depth: at most so many more
-abbrev pub parts : Setting → ℕ → Token → List Tree → ℕ → List Token → Answer (Formed × List Token)
+unfoldable pub parts : Setting → ℕ → Token → List Tree → ℕ → List Token → Answer (Formed × List Token)
 parts s zero t trees deepest ts = Err (Expected (offset s.end ts))
 parts s (suc n) t trees deepest [] = Err (Expected s.end)
 parts s (suc n) t trees deepest (u ∷ ts) = parts_by s t trees deepest u ts (sign_of u.kind) (λ trees deepest rest. parts s n t trees deepest rest)
 
 -- behind the first part in braces
-abbrev pub behind_part : Setting → Token → Formed → List Token → Sign → Answer (Formed × List Token)
+unfoldable pub behind_part : Setting → Token → Formed → List Token → Sign → Answer (Formed × List Token)
 behind_part s t f ts sign.Colon = gathered s gathering.Union sign.CloseBrace t f ts
 behind_part s t f ts _ = parts s (length ts) t (f.tree ∷ []) f.depth ts
 
 -- behind an opened brace
-abbrev pub braced : Setting → Token → List Token → Option (List Token) → Answer (Formed × List Token)
+unfoldable pub braced : Setting → Token → List Token → Option (List Token) → Answer (Formed × List Token)
 braced s t ts (Some rest) = with_rest rest (made s.limit t.start (tree.Set t.line []) 0)
 braced s t ts None = s.inner ts >>= (λ f. behind_part s t f.0 f.1 (sign_at f.1))
 
 -- what stands in parentheses
-abbrev pub parenthesised : Setting → List Token → Answer (Formed × List Token)
+unfoldable pub parenthesised : Setting → List Token → Answer (Formed × List Token)
 parenthesised s ts = s.inner ts >>= (λ x. expect s.end sign.Close x.1 >>= (λ rest. Ok (x.0, rest)))
 
-abbrev pub bracketed : Setting → Sign → Token → List Token → Answer (Formed × List Token)
+unfoldable pub bracketed : Setting → Sign → Token → List Token → Answer (Formed × List Token)
 bracketed s sign.Open t ts = if s.room == 0 then Err (TooNested t.start) else parenthesised s ts
 bracketed s sign.OpenBrace t ts = if s.room == 0 then Err (TooNested t.start) else braced s t ts (after sign.CloseBrace ts)
 bracketed s sign.Count t ts = called s function.Count t ts
@@ -200,7 +217,7 @@ abbrev pub leaf_or : Setting → Option Tree → Token → List Token → Answer
 leaf_or s (Some form) t ts = Ok (record { tree = form; depth = 1 }, ts)
 leaf_or s None t ts = bracketed s (sign_of t.kind) t ts
 
-abbrev pub atom : Setting → Reader
+unfoldable pub atom : Setting → Reader
 atom s [] = Err (Expected s.end)
 atom s (t ∷ ts) = leaf_or s (leaf t.line t.kind) t ts
 
@@ -213,29 +230,40 @@ step_of line e (kind.Text text) = None
 step_of line e (kind.Symbol symbol) = None
 
 -- the steps behind a formula that begins at that offset and line
-abbrev pub steps : Setting → ℕ → ℕ → Formed → List Token → Answer (Formed × List Token)
-steps s at line f [] = Ok (f, [])
-steps s at line f (d ∷ []) = if same_sign (sign_of d.kind) sign.Dot then Err (Expected s.end) else Ok (f, d ∷ [])
-steps s at line f (d ∷ t ∷ ts) =
+unfoldable pub steps : ℕ → ℕ → ℕ → ℕ → Formed → List Token → Answer (Formed × List Token)
+steps limit end at line f [] = Ok (f, [])
+steps limit end at line f (d ∷ []) = if same_sign (sign_of d.kind) sign.Dot then Err (Expected end) else Ok (f, d ∷ [])
+steps limit end at line f (d ∷ t ∷ ts) =
     if same_sign (sign_of d.kind) sign.Dot
-    then or_expected t.start (step_of line f.tree t.kind) >>= (λ form. made s.limit at form f.depth >>= (λ g. steps s at line g ts))
+    then or_expected t.start (step_of line f.tree t.kind) >>= (λ form. made limit at form f.depth >>= (λ g. steps limit end at line g ts))
     else Ok (f, d ∷ t ∷ ts)
 
-abbrev pub postfix : Setting → Reader
-postfix s ts = atom s ts >>= (λ x. steps s (offset s.end ts) (line_of ts) x.0 x.1)
+unfoldable pub postfix : Setting → Reader
+postfix s ts = atom s ts >>= (λ x. steps s.limit s.end (offset s.end ts) (line_of ts) x.0 x.1)
 
--- a form with any number of prefixes of a kind
-abbrev pub with_prefixes : Setting → Prefix → Reader → Reader
-with_prefixes s p operand [] = operand []
-with_prefixes s p operand (t ∷ ts) =
-    if same_sign (sign_of t.kind) (prefix_sign p)
-    then with_prefixes s p operand ts >>= (λ x. with_rest x.1 (made s.limit t.start (prefixed p t.line x.0.tree) x.0.depth))
-    else operand (t ∷ ts)
+-- the prefixes of a kind that stand at the front
+unfoldable pub prefixes : Prefix → List Token → List Token
+prefixes p [] = []
+prefixes p (t ∷ ts) = if same_sign (sign_of t.kind) (prefix_sign p) then t ∷ prefixes p ts else []
+
+unfoldable pub behind_prefixes : Prefix → List Token → List Token
+behind_prefixes p [] = []
+behind_prefixes p (t ∷ ts) = if same_sign (sign_of t.kind) (prefix_sign p) then behind_prefixes p ts else t ∷ ts
+
+-- the formula behind these prefixes, with them
+unfoldable pub under_prefixes : ℕ → Prefix → List Token → Answer Formed → Answer Formed
+under_prefixes limit p [] r = r
+under_prefixes limit p (t ∷ ts) r = under_prefixes limit p ts r >>= (λ f. made limit t.start (prefixed p t.line f.tree) f.depth)
+
+unfoldable pub with_prefixes : Setting → Prefix → Reader → Reader
+with_prefixes s p operand ts = operand (behind_prefixes p ts) >>= (λ x. with_rest x.1 (under_prefixes s.limit p (prefixes p ts) (Ok x.0)))
 
 -- What follows an operand of a level, at most so many times: operators of that level with further operands.
+abbrev pub operation : ℕ → ℕ → ℕ → Operator → Formed → Formed → Answer Formed
+operation limit at line op f g = made limit at (tree.Binary line op f.tree g.tree) (max f.depth g.depth)
+
 abbrev pub operand_behind : Setting → Reader → ℕ → ℕ → Operator → Formed → List Token → Answer (Formed × List Token)
-operand_behind s operand at line op f ts =
-    operand ts >>= (λ x. with_rest x.1 (made s.limit at (tree.Binary line op f.tree x.0.tree) (max f.depth x.0.depth)))
+operand_behind s operand at line op f ts = operand ts >>= (λ x. with_rest x.1 (operation s.limit at line op f x.0))
 
 abbrev pub go_on : Bool → Answer (Formed × List Token) → (Formed → List Token → Answer (Formed × List Token)) → Answer (Formed × List Token)
 go_on true r more = r >>= (λ x. more x.0 x.1)
@@ -245,56 +273,85 @@ abbrev pub more_by : Setting → Level → Reader → ℕ → ℕ → Formed →
 more_by s l operand at line f t ts None more = Ok (f, t ∷ ts)
 more_by s l operand at line f t ts (Some op) more = go_on (repeats l) (operand_behind s operand at line op f ts) more
 
-abbrev pub more : Setting → Level → Reader → ℕ → ℕ → ℕ → Formed → List Token → Answer (Formed × List Token)
+unfoldable pub more : Setting → Level → Reader → ℕ → ℕ → ℕ → Formed → List Token → Answer (Formed × List Token)
 more s l operand zero at line f ts = Ok (f, ts)
 more s l operand (suc n) at line f [] = Ok (f, [])
 more s l operand (suc n) at line f (t ∷ ts) = more_by s l operand at line f t ts (operator_among l (sign_of t.kind)) (λ g rest. more s l operand n at line g rest)
 
-abbrev pub chain : Setting → Level → Reader → Reader
+unfoldable pub chain : Setting → Level → Reader → Reader
 chain s l operand ts = operand ts >>= (λ x. more s l operand (length x.1) (offset s.end ts) (line_of ts) x.0 x.1)
 
--- the operands of a level
-abbrev pub unary : Setting → Reader
+-- the operands of each level
+unfoldable pub unary : Setting → Reader
 unary s = with_prefixes s prefix.Minus (postfix s)
 
-abbrev pub negation : Setting → Reader
-negation s = with_prefixes s prefix.Not (chain s level.Comparison (chain s level.Sets (chain s level.Sums (chain s level.Products (unary s)))))
+unfoldable pub products : Setting → Reader
+products s = chain s level.Products (unary s)
+
+unfoldable pub sums : Setting → Reader
+sums s = chain s level.Sums (products s)
+
+unfoldable pub sets : Setting → Reader
+sets s = chain s level.Sets (sums s)
+
+unfoldable pub comparison : Setting → Reader
+comparison s = chain s level.Comparison (sets s)
+
+unfoldable pub negation : Setting → Reader
+negation s = with_prefixes s prefix.Not (comparison s)
+
+unfoldable pub conjunction : Setting → Reader
+conjunction s = chain s level.And (negation s)
+
+unfoldable pub disjunction : Setting → Reader
+disjunction s = chain s level.Or (conjunction s)
 
 abbrev pub operand_at : Setting → Level → Reader
 operand_at s level.Products = unary s
-operand_at s level.Sums = chain s level.Products (unary s)
-operand_at s level.Sets = chain s level.Sums (chain s level.Products (unary s))
-operand_at s level.Comparison = chain s level.Sets (chain s level.Sums (chain s level.Products (unary s)))
+operand_at s level.Sums = products s
+operand_at s level.Sets = sums s
+operand_at s level.Comparison = sets s
 operand_at s level.And = negation s
-operand_at s level.Or = chain s level.And (negation s)
+operand_at s level.Or = conjunction s
 
 abbrev pub chain_at : Setting → Level → Reader
-chain_at s l = chain s l (operand_at s l)
+chain_at s level.Products = products s
+chain_at s level.Sums = sums s
+chain_at s level.Sets = sets s
+chain_at s level.Comparison = comparison s
+chain_at s level.And = conjunction s
+chain_at s level.Or = disjunction s
 
--- behind "if": the condition and both branches, where so they are read
-unfoldable pub chosen : Setting → Reader → Token → List Token → Answer (Formed × List Token)
-chosen s expression t ts =
-    expression ts >>= (λ c.
+-- behind "if"
+unfoldable pub chosen : Setting → Token → List Token → Answer (Formed × List Token)
+chosen s t ts =
+    s.nested ts >>= (λ c.
     expect s.end sign.Then c.1 >>= (λ a.
-    expression a >>= (λ x.
+    s.nested a >>= (λ x.
     expect s.end sign.Else x.1 >>= (λ b.
-    expression b >>= (λ y.
-    with_rest y.1 (made s.limit t.start (tree.If t.line c.0.tree x.0.tree y.0.tree) (max c.0.depth (max x.0.depth y.0.depth))))))))
+    s.nested b >>= (λ y.
+    with_rest y.1 (choice s.limit t c.0 x.0 y.0))))))
 
--- an expression, with ifs in each other at most so deep
-abbrev pub expression : Setting → ℕ → Reader
-expression s n [] = chain_at s level.Or []
-expression s zero (t ∷ ts) = chain_at s level.Or (t ∷ ts)
-expression s (suc n) (t ∷ ts) = if same_sign (sign_of t.kind) sign.If then chosen s (expression s n) t ts else chain_at s level.Or (t ∷ ts)
+unfoldable pub expression : Setting → Reader
+expression s [] = disjunction s []
+expression s (t ∷ ts) = if same_sign (sign_of t.kind) sign.If then chosen s t ts else disjunction s (t ∷ ts)
 
--- What stands in a bracket, where with it at most so many may be open.
-abbrev pub inside : ℕ → ℕ → ℕ → Reader
-inside limit end zero ts = Err (Expected (offset end ts))
-inside limit end (suc room) ts = expression (record { limit = limit; end = end; room = room; inner = inside limit end room }) (length ts) ts
+-- an expression, with others in each other at most so deep
+unfoldable pub within : ℕ → ℕ → ℕ → ℕ → Reader
+within limit end zero room ts = Err (Expected (offset end ts))
+within limit end (suc turns) room ts = expression (record { limit = limit; end = end; room = room; inner = within limit end turns (room - 1); nested = within limit end turns room }) ts
 
-abbrev pub setting : ℕ → ℕ → ℕ → Setting
-setting limit end room = record { limit = limit; end = end; room = room; inner = inside limit end room }
+abbrev pub setting : ℕ → ℕ → ℕ → ℕ → Setting
+setting limit end turns room = record { limit = limit; end = end; room = room; inner = within limit end turns (room - 1); nested = within limit end turns room }
 
 -- the formula at the front
-abbrev pub formula_at : ℕ → ℕ → ℕ → Reader
-formula_at limit room end ts = expression (setting limit end room) (length ts) ts
+unfoldable pub formula_at : ℕ → ℕ → ℕ → Reader
+formula_at limit room end ts = within limit end (length ts + 1) room ts
+
+-- the formula that all the tokens are
+abbrev pub nothing_behind : ℕ → Formed × List Token → Answer Tree
+nothing_behind end (f, []) = Ok f.tree
+nothing_behind end (f, t ∷ ts) = Err (Expected t.start)
+
+abbrev pub whole_formula : ℕ → List Token → Answer Tree
+whole_formula end ts = formula_at 32 32 end ts >>= nothing_behind end

@@ -1,0 +1,11 @@
+//! Formulas are read from texts, and printed.
+#![tactic(auto)]
+
+mod build;
+mod front;
+
+pub use sheet_tokens::{SyntaxRefusal, Token, TokenKind, Tokens, lex};
+pub use sheet_trees::{Formed, Function, Gathering, Level, Operator, Prefix, Quantifier, Sign, Tree};
+
+#[cfg(test)]
+mod tests;
