@@ -3,6 +3,7 @@
 
 mod build;
 mod front;
+mod parser;
 
 pub use sheet_tokens::{SyntaxRefusal, Token, TokenKind, Tokens, lex};
 pub use sheet_trees::{Formed, Function, Gathering, Level, Operator, Prefix, Quantifier, Sign, Tree};
