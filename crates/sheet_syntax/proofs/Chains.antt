@@ -1,5 +1,5 @@
 -- The loops over operators, and over the parts of a set.
-use Rattle.std.proofs.Common.{◌≡◌, ℕ, zero, suc, ◌+◌, max, List, [], ◌∷◌, ◌++◌, length, Some, None, Ok, Err, true, false, refl, sym, ap, ◌∙◌, subst, arith}
+use Rattle.std.proofs.Common.{◌≡◌, ℕ, zero, suc, ◌+◌, ◌-◌, ◌<◌, max, List, [], ◌∷◌, ◌++◌, length, Some, None, Ok, Err, true, false, refl, sym, ap, ◌∙◌, subst, arith}
 use Rattle.std.specs.Prelude.{Option, Bool, if◌then◌else◌}
 use Rattle.sheet_tokens.specs.declared.token.Token.{Token}
 use Rattle.sheet_tokens.specs.declared.token.SyntaxRefusal.{SyntaxRefusal}
@@ -140,3 +140,6 @@ pub parts_on : (s : Setting) (n m : ℕ) (t : Token) (trees : List Tree) (deepes
     → s.inner us ≡ Ok x → parts s n t trees deepest rest ≡ parts s m t (trees ++ x.0.tree ∷ []) (max deepest x.0.depth) x.1
 parts_on s n m t trees deepest rest us x e h inner =
     ap (λ k. parts s k t trees deepest rest) e ∙ comma s m t trees deepest rest us h ∙ ap (λ r. r >>= (λ x. parts s m t (trees ++ x.0.tree ∷ []) (max deepest x.0.depth) x.1)) inner
+
+pub one_less : (a i : ℕ) → i < a → a - i ≡ suc (a - (i + 1))
+one_less a i h = omega arith

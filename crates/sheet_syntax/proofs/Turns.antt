@@ -3,7 +3,9 @@ use Rattle.std.proofs.Common.{◌≡◌, ℕ, zero, suc, ◌-◌, ◌<◌, List,
 use Rattle.std.proofs.lemmas.Bool.{cases_Bool}
 use Rattle.sheet_tokens.specs.declared.token.Token.{Token}
 use Rattle.sheet_tokens.specs.declared.token.SyntaxRefusal.TheVariants.{Expected}
+use Rattle.sheet_trees.specs.declared.sign.Sign.{Sign}
 use Rattle.sheet_trees.specs.declared.sign.Sign.TheVariants as sign
+use Rattle.sheet_trees.proofs.SignLemmas.{same_is}
 use Rattle.sheet_trees.specs.Signs.{sign_of, same_sign}
 use Rattle.sheet_trees.specs.Reading.{offset, setting, within, expression, chosen, disjunction}
 
@@ -28,3 +30,6 @@ turn_or limit end turns room t rest ts some e is = turn_on limit end turns room 
 pub turn_none : (limit end turns room : ℕ) (rest : List Token) → 0 < turns → rest ≡ [] → within limit end turns room rest ≡ disjunction (setting limit end (turns - 1) room) rest
 unfolding expression
 turn_none limit end turns room rest some e = turn_on limit end turns room rest some ∙ rw e refl
+
+pub other_sign : (a b : Sign) → (a ≡ b → ⊥) → same_sign a b ≡ false
+other_sign a b other = elim (cases_Bool (same_sign a b)) [ inl same ↦ absurd (other (same_is a b same)) | inr differ ↦ differ ]
