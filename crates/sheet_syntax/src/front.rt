@@ -132,7 +132,7 @@ pub(crate) fn step(
             let from = Boxed::new(alloc, from)?;
             Ok(Tree::Child(line, from, copy))
         }
-        TokenKind::Reserved(_) if sign_of(&token.kind) == Sign::Up => {
+        kind if sign_of(kind) == Sign::Up => {
             let from = Boxed::new(alloc, from)?;
             Ok(Tree::Up(line, from))
         }

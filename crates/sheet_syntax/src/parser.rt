@@ -430,7 +430,6 @@ pub(crate) fn formula_at<'a>(
     rest: &'a [Token],
     end: usize,
 ) -> Result<(Formed, &'a [Token]), SyntaxRefusal>
-    requires { length rest.now < 2 ^ 62 }
     ensures { Reads (λ x. (x.0, x.1.now)) result (formula_of_tokens 32 32 end rest.now) }
 {
     let room = Room {

@@ -22,7 +22,7 @@ use Rattle.sheet_trees.specs.declared.tree.Tree.TheVariants as tree
 use Rattle.sheet_trees.specs.declared.tree.Formed.{Formed}
 use Rattle.sheet_trees.specs.Signs.{sign_of, same_sign}
 use Rattle.sheet_trees.specs.Operators.{operator_among, repeats, prefix_sign, prefixed}
-use Rattle.sheet_trees.specs.Grammar.{Nonterminal, expression, chain, negation, unary, postfix, atom, operand, before, prefixing, unprefixed, Form, form, Parts, function_of, quantifier_of, Produces, AreParts, Gathers, a_choice, no_choice, an_operand, an_operation, a_prefix, no_prefix, no_step, a_child, an_up, a_leaf, in_parentheses, no_set, a_set, a_comprehension, a_sum, a_call, a_test, one_part, more_parts, all_values, chosen_values}
+use Rattle.sheet_trees.specs.Grammar.{Nonterminal, expression, chain, negation, unary, postfix, atom, operand, before, prefixing, unprefixed, Form, form, Parts, function_of, quantifier_of, IsFormula, Produces, AreParts, Gathers, a_choice, no_choice, an_operand, an_operation, a_prefix, no_prefix, no_step, a_child, an_up, a_leaf, in_parentheses, no_set, a_set, a_comprehension, a_sum, a_call, a_test, one_part, more_parts, all_values, chosen_values}
 use Rattle.sheet_trees.specs.Reading as reading
 use Rattle.sheet_trees.specs.Reading.{Answer, Reader, ◌>>=◌, Setting, offset, line_of, after, expect, name_at, with_rest, made, opened, leaf}
 use Rattle.sheet_trees.proofs.SignLemmas.{same_is}
@@ -388,7 +388,7 @@ step_told line e (kind.Name name) form h = inl (name, refl, cc)
 step_told line e (kind.Reserved word) form h = let (test, is) = up_told (same_sign (sign_of (kind.Reserved word)) sign.Up) line e form h in inr (same_is (sign_of (kind.Reserved word)) sign.Up test, is)
 step_told line e (kind.Number n) form h = let wrong : ⊥ = cc in absurd wrong
 step_told line e (kind.Text x) form h = let wrong : ⊥ = cc in absurd wrong
-step_told line e (kind.Symbol x) form h = let wrong : ⊥ = cc in absurd wrong
+step_told line e (kind.Symbol x) form h = let (test, is) = up_told (same_sign (sign_of (kind.Symbol x)) sign.Up) line e form h in inr (same_is (sign_of (kind.Symbol x)) sign.Up test, is)
 
 step_produced : (h d t : Token) (hs : List Token) (f : Formed) (nest : ℕ) (e : Tree) → Produces postfix (h ∷ hs) (form f.tree f.depth nest) → sign_of d.kind ≡ sign.Dot → reading.step_of h.line f.tree t.kind ≡ Some e
     → Produces postfix ((h ∷ hs) ++ d ∷ t ∷ []) (form e (f.depth + 1) nest)
@@ -599,3 +599,20 @@ unfolding reading.within
 within_sound limit end deep zero room ts y e = let wrong : ⊥ = cc in absurd wrong
 within_sound limit end deep (suc turns) room ts y e =
     expression_sound (reading.setting limit end turns room) deep (within_sound limit end deep turns (room - 1)) (within_sound limit end deep turns room) ts y e
+
+-- ---- whole formulas
+
+nothing_left : (end : ℕ) (f : Formed) (rest : List Token) (e : Tree) → ◌≡◌ {A = Answer Tree} (reading.nothing_behind end (f, rest)) (Ok e) → (rest ≡ []) × (f.tree ≡ e)
+nothing_left end f [] e h = (refl, cc)
+nothing_left end f (t ∷ ts) e h = let wrong : ⊥ = cc in absurd wrong
+
+pub whole_sound : (end : ℕ) (ts : List Token) (e : Tree) → reading.whole_formula end ts ≡ Ok e → IsFormula ts e
+unfolding reading.formula_at
+whole_sound end ts e h =
+    let (x, ex, e1) = ok_then (reading.formula_at 32 32 end ts) (reading.nothing_behind end) e h in
+    let s = within_sound 32 end (omega arith) (length ts + 1) 32 ts x ex in
+    let (none, is) = nothing_left end x.0 x.1 e e1 in
+    let whole : s.front ≡ ts = sym (append-nil s.front) ∙ ap (λ l. s.front ++ l) (sym none) ∙ sym s.split in
+    let P : List Token → Type 0 = λ l. Produces expression l (form e x.0.depth s.nest) in
+    let Q : Tree → Type 0 = λ t. Produces expression s.front (form t x.0.depth s.nest) in
+    record { depth = x.0.depth; nest = s.nest; produced = subst P whole (subst Q is s.produced); shallow = s.shallow; narrow = s.narrow }

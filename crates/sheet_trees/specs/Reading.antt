@@ -227,7 +227,7 @@ step_of line e (kind.Name name) = Some (tree.Child line e name)
 step_of line e (kind.Reserved word) = if same_sign (sign_of (kind.Reserved word)) sign.Up then Some (tree.Up line e) else None
 step_of line e (kind.Number n) = None
 step_of line e (kind.Text text) = None
-step_of line e (kind.Symbol symbol) = None
+step_of line e (kind.Symbol symbol) = if same_sign (sign_of (kind.Symbol symbol)) sign.Up then Some (tree.Up line e) else None
 
 -- the steps behind a formula that begins at that offset and line
 unfoldable pub steps : ℕ → ℕ → ℕ → ℕ → Formed → List Token → Answer (Formed × List Token)
