@@ -18,8 +18,8 @@ pub record StandsFor (text : List ℕ) (e : Tree) : Type 0 where
 -- a tree exactly where the text stands for one, and that one
 abbrev pub Parses : List ℕ → Result Tree SyntaxRefusal → Type 0
 Parses text (Ok e) = StandsFor text e
-Parses text (Err (BadToken k)) = lexed text ≡ Err (BadToken k)
-Parses text (Err (NumberTooWide k)) = lexed text ≡ Err (NumberTooWide k)
+Parses text (Err (BadToken k)) = (e : Tree) → StandsFor text e → ⊥
+Parses text (Err (NumberTooWide k)) = (e : Tree) → StandsFor text e → ⊥
 Parses text (Err (Expected k)) = (e : Tree) → StandsFor text e → ⊥
 Parses text (Err (TooNested k)) = (e : Tree) → StandsFor text e → ⊥
 Parses text (Err NoMemory) = Unit {0}
@@ -35,8 +35,8 @@ parsed_at tokens from = formula_at 32 32 tokens.text_length (drop from tokens.li
 -- the tokens from the one index up to the other stand for this tree
 abbrev pub ParsesAt : List Token → ℕ → Result (Tree × ℕ) SyntaxRefusal → Type 0
 ParsesAt tokens from (Ok x) = (from ≤ x.1) × IsFormula (take (x.1 - from) (drop from tokens)) x.0
-ParsesAt tokens from (Err (BadToken k)) = ⊥
-ParsesAt tokens from (Err (NumberTooWide k)) = ⊥
+ParsesAt tokens from (Err (BadToken k)) = (e : Tree) → IsFormula (drop from tokens) e → ⊥
+ParsesAt tokens from (Err (NumberTooWide k)) = (e : Tree) → IsFormula (drop from tokens) e → ⊥
 ParsesAt tokens from (Err (Expected k)) = (e : Tree) → IsFormula (drop from tokens) e → ⊥
 ParsesAt tokens from (Err (TooNested k)) = (e : Tree) → IsFormula (drop from tokens) e → ⊥
 ParsesAt tokens from (Err NoMemory) = Unit {0}

@@ -1,7 +1,7 @@
 // Reads formulas from tokens: each reader gives what stands at the front, and the tokens behind it. At most so many
 // brackets may be open (room), and at most so many expressions may stand in each other (turns): one for each token is
 // enough.
-ghost use Rattle.std.specs.Prelude.{◌≡◌, ◌<◌, ◌^◌, ◌-◌, ◌∷◌, [], length, Ok};
+ghost use Rattle.std.specs.Prelude.{◌≡◌, ◌≤◌, ◌-◌, ◌∷◌, [], length, Ok, IfOk};
 ghost use Rattle.sheet_tokens.specs.Tokens.{Reads};
 ghost use Rattle.sheet_trees.specs.Reading.{setting, opened as opened_bracket, closed as closed_gathering, closed_where as closed_gathering_where, gathered as gathered_values, summed as summed_values, tested as tested_values, called as called_function, parts as parts_of_set, braced as braced_form, parenthesised as parenthesised_form, bracketed as bracketed_form, atom as atom_at, postfix as postfix_at, chain_at, operand_at, chosen as chosen_branch, within as within_turns, formula_at as formula_of_tokens, after as tokens_after};
 
@@ -430,7 +430,8 @@ pub(crate) fn formula_at<'a>(
     rest: &'a [Token],
     end: usize,
 ) -> Result<(Formed, &'a [Token]), SyntaxRefusal>
-    ensures { Reads (λ x. (x.0, x.1.now)) result (formula_of_tokens 32 32 end rest.now) }
+    ensures exact { Reads (λ x. (x.0, x.1.now)) result (formula_of_tokens 32 32 end rest.now) }
+    ensures shorter { IfOk result (λ x. length x.1.now ≤ length rest.now) }
 {
     let room = Room {
         end,
