@@ -2,7 +2,9 @@
 ghost use Rattle.std.specs.Prelude.{◌≡◌, ◌++◌, [], map, OnOk, IfOk};
 ghost use Rattle.sheet_spelling.specs.Printing.{printed, operand_text as text_of_operand, separated, bound};
 
-use crate::words::{closing, function_text, opening, operator_text, push, push_number, push_quoted, quantifier_text};
+use crate::words::{
+    closing, function_text, opening, operator_text, push, push_number, push_quoted, quantifier_text,
+};
 use sheet_trees::Tree;
 use sheet_values::NoMemory;
 use std::alloc::Global;
@@ -11,7 +13,8 @@ fn is_compound(tree: &Tree) -> bool
     ensures { result ≡ (printed tree.now).compound }
 {
     match tree {
-        Tree::Negate(_, _) | Tree::Not(_, _) | Tree::Binary(_, _, _, _) | Tree::If(_, _, _, _) => true,
+        Tree::Negate(_, _) | Tree::Not(_, _) | Tree::Binary(_, _, _, _) | Tree::If(_, _, _, _) =>
+            true,
         _ => false,
     }
 }

@@ -65,8 +65,8 @@ stands_at tokens from x within below h =
     let P : List Token → Type 0 = λ l. Produces expression l (form x.0 y.0.depth s.nest) in
     let Q : Tree → Type 0 = λ t. Produces expression s.front (form t y.0.depth s.nest) in
     (omega arith, record { depth = y.0.depth; nest = s.nest; produced = subst P (sym front) (subst Q tree s.produced); shallow = s.shallow; narrow = s.narrow }) where
-  pair_ok : {p q : Tree × List Token} → ◌≡◌ {A = Answer (Tree × List Token)} (Ok p) (Ok q) → p ≡ q
-  pair_ok {p} {q} e = cc
+      pair_ok : {p q : Tree × List Token} → ◌≡◌ {A = Answer (Tree × List Token)} (Ok p) (Ok q) → p ≡ q
+      pair_ok {p} {q} e = cc
 
 none_at : (tokens : TokenList) (from : ℕ) (d : SyntaxRefusal) → parsed_at tokens from ≡ Err d → (e : Tree) → IsFormula (drop from tokens.list) e → ⊥
 none_at tokens from d h e f =

@@ -74,7 +74,11 @@ pub(crate) fn call(
 {
     let deepest = argument.depth;
     let argument = Boxed::new(alloc, argument.tree)?;
-    made(token.start, Tree::Call(token.line, function, argument), deepest)
+    made(
+        token.start,
+        Tree::Call(token.line, function, argument),
+        deepest,
+    )
 }
 
 pub(crate) fn choice(
@@ -90,7 +94,11 @@ pub(crate) fn choice(
     let condition = Boxed::new(alloc, condition.tree)?;
     let then = Boxed::new(alloc, then.tree)?;
     let other = Boxed::new(alloc, other.tree)?;
-    made(token.start, Tree::If(token.line, condition, then, other), deepest)
+    made(
+        token.start,
+        Tree::If(token.line, condition, then, other),
+        deepest,
+    )
 }
 
 /// The operation of two operands, which begins at that offset and line.
@@ -155,12 +163,7 @@ pub(crate) fn prefixes(prefix: Prefix, rest: &[Token]) -> (&[Token], &[Token])
     (rest.split_at(count).0, behind)
 }
 
-fn prefixed(
-    alloc: Global,
-    prefix: Prefix,
-    line: u32,
-    operand: Tree,
-) -> Result<Tree, SyntaxRefusal>
+fn prefixed(alloc: Global, prefix: Prefix, line: u32, operand: Tree) -> Result<Tree, SyntaxRefusal>
     ensures { Reads (λ t. t) result (Ok (prefixed_tree prefix line operand)) }
 {
     let operand = Boxed::new(alloc, operand)?;

@@ -5,8 +5,12 @@ ghost use Rattle.std.specs.Prelude.{◌≡◌, ◌≤◌, ◌-◌, ◌∷◌, []
 ghost use Rattle.sheet_tokens.specs.Tokens.{Reads};
 ghost use Rattle.sheet_trees.specs.Reading.{setting, opened as opened_bracket, closed as closed_gathering, closed_where as closed_gathering_where, gathered as gathered_values, summed as summed_values, tested as tested_values, called as called_function, parts as parts_of_set, braced as braced_form, parenthesised as parenthesised_form, bracketed as bracketed_form, atom as atom_at, postfix as postfix_at, chain_at, operand_at, chosen as chosen_branch, within as within_turns, formula_at as formula_of_tokens, after as tokens_after};
 
-use crate::build::{call, choice, gather, gather_where, operation, prefixes, steps, test, under_prefixes};
-use crate::front::{after, expect, leaf, line_of, made, name_at, offset, operator_among, repeats, sign_at};
+use crate::build::{
+    call, choice, gather, gather_where, operation, prefixes, steps, test, under_prefixes,
+};
+use crate::front::{
+    after, expect, leaf, line_of, made, name_at, offset, operator_among, repeats, sign_at,
+};
 use sheet_tokens::{SyntaxRefusal, Token};
 use sheet_trees::{Formed, Function, Gathering, Level, Prefix, Quantifier, Sign, Tree, sign_of};
 use sheet_values::Name;
@@ -105,8 +109,12 @@ fn gathered<'a>(
     let rest = expect(room.end, Sign::In, rest)?;
     let (source, rest) = turn(alloc, rest, room.inside())?;
     match after(Sign::Bar, rest) {
-        None => closed(alloc, gathering, close, token, body, name, source, rest, room),
-        Some(rest) => closed_where(alloc, gathering, close, token, body, name, source, rest, room),
+        None => closed(
+            alloc, gathering, close, token, body, name, source, rest, room,
+        ),
+        Some(rest) => closed_where(
+            alloc, gathering, close, token, body, name, source, rest, room,
+        ),
     }
 }
 
@@ -220,7 +228,15 @@ fn braced<'a>(
     }
     let (first, rest) = turn(alloc, rest, room.inside())?;
     match sign_at(rest) {
-        Sign::Colon => gathered(alloc, Gathering::Union, Sign::CloseBrace, token, first, rest, room),
+        Sign::Colon => gathered(
+            alloc,
+            Gathering::Union,
+            Sign::CloseBrace,
+            token,
+            first,
+            rest,
+            room,
+        ),
         _ => parts(alloc, token, first, rest, room),
     }
 }
@@ -304,7 +320,14 @@ fn postfix<'a>(
     ensures { Reads (λ x. (x.0, x.1.now)) result (postfix_at (setting 32 room.end room.turns room.brackets) rest.now) }
 {
     let (first, behind) = atom(alloc, rest, room)?;
-    steps(alloc, offset(room.end, rest), line_of(rest), first, behind, room.end)
+    steps(
+        alloc,
+        offset(room.end, rest),
+        line_of(rest),
+        first,
+        behind,
+        room.end,
+    )
 }
 
 #[cycle(parser)]

@@ -8,11 +8,7 @@ use sheet_tokens::{SyntaxRefusal, Tokens, lex};
 use sheet_trees::Tree;
 use std::alloc::Global;
 
-fn read_from(
-    alloc: Global,
-    tokens: &Tokens,
-    from: usize,
-) -> Result<(Tree, usize), SyntaxRefusal>
+fn read_from(alloc: Global, tokens: &Tokens, from: usize) -> Result<(Tree, usize), SyntaxRefusal>
     requires { from ≤ length tokens.now.list }
     ensures exact { Reads (λ x. (x.0, drop x.1 tokens.now.list)) result (parsed_at tokens.now from) }
     ensures within { IfOk result (λ x. x.1 ≤ length tokens.now.list) }
@@ -42,11 +38,7 @@ fn read_text(alloc: Global, text: &[u8]) -> Result<Tree, SyntaxRefusal>
 /// `Expected` where those taken are no formula: the offset of the token behind them, or the text's length at the end.
 /// `TooNested` with the offset of the 33rd open bracket, or of the first token of a form of depth 33; the first of all
 /// from the left.
-pub fn parse_at(
-    alloc: Global,
-    tokens: &Tokens,
-    from: usize,
-) -> Result<(Tree, usize), SyntaxRefusal>
+pub fn parse_at(alloc: Global, tokens: &Tokens, from: usize) -> Result<(Tree, usize), SyntaxRefusal>
     requires { from ≤ length tokens.now.list }
     ensures exact { Reads (λ x. (x.0, drop x.1 tokens.now.list)) result (parsed_at tokens.now from) }
     ensures stands { ParsesAt tokens.now.list from result }

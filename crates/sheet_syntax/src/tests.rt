@@ -50,16 +50,38 @@ fn repeated(
     Ok(text)
 }
 
-// What a text of such pieces, and of as many others behind it, is refused with.
-fn repeated_refusal(alloc: Global, piece: &[u8], count: usize, back: &[u8]) -> Option<SyntaxRefusal> {
+fn whole_refusal(alloc: Global, text: &[u8]) -> Option<SyntaxRefusal> {
+    if text.len() > 1_000_000 {
+        return Some(SyntaxRefusal::NoMemory);
+    }
+    refusal(alloc, text)
+}
+
+// What a text of such pieces is refused with.
+fn repeated_refusal(
+    alloc: Global,
+    piece: &[u8],
+    count: usize,
+    back: &[u8],
+) -> Option<SyntaxRefusal> {
     match repeated(alloc, b"", piece, count, back) {
-        Ok(text) => {
-            if text.len() > 1_000_000 {
-                Some(SyntaxRefusal::NoMemory)
-            } else {
-                refusal(alloc, text.as_slice())
-            }
-        }
+        Ok(text) => whole_refusal(alloc, text.as_slice()),
+        Err(refusal) => Some(refusal),
+    }
+}
+
+// What a text of so many line feeds is refused with.
+fn quoted_refusal(alloc: Global, count: usize) -> Option<SyntaxRefusal> {
+    match repeated(alloc, b"\"", b"\\n", count, b"\"") {
+        Ok(text) => whole_refusal(alloc, text.as_slice()),
+        Err(refusal) => Some(refusal),
+    }
+}
+
+// What a set of one part more than so many is refused with.
+fn set_refusal(alloc: Global, count: usize) -> Option<SyntaxRefusal> {
+    match repeated(alloc, b"{1", b",1", count, b"}") {
+        Ok(text) => whole_refusal(alloc, text.as_slice()),
         Err(refusal) => Some(refusal),
     }
 }
@@ -146,11 +168,40 @@ fn depths(rt: HostRuntime) {
 }
 
 #[test]
-fn hostile_texts(rt: HostRuntime) {
+fn nested_parentheses_end(rt: HostRuntime) {
     let alloc = rt.alloc();
     assert!(rt; repeated_refusal(alloc, b"(", 262_144, b"") == Some(SyntaxRefusal::TooNested(32)));
+}
+
+#[test]
+fn a_long_chain_ends(rt: HostRuntime) {
+    let alloc = rt.alloc();
     assert!(rt; repeated_refusal(alloc, b"1+", 131_072, b"1") == Some(SyntaxRefusal::TooNested(0)));
-    assert!(rt; repeated_refusal(alloc, b"-", 262_144, b"") == Some(SyntaxRefusal::Expected(262_144)));
+}
+
+#[test]
+fn many_prefixes_end(rt: HostRuntime) {
+    let alloc = rt.alloc();
+    assert!(rt;
+        repeated_refusal(alloc, b"-", 262_144, b"") == Some(SyntaxRefusal::Expected(262_144))
+    );
+}
+
+#[test]
+fn a_long_name_ends(rt: HostRuntime) {
+    let alloc = rt.alloc();
     assert!(rt; repeated_refusal(alloc, b"a", 262_144, b"") == Some(SyntaxRefusal::BadToken(0)));
-    assert!(rt; repeated_refusal(alloc, b"\"\\n", 87_381, b"\"") == Some(SyntaxRefusal::BadToken(0)));
+}
+
+#[test]
+fn a_long_text_ends(rt: HostRuntime) {
+    let alloc = rt.alloc();
+    assert!(rt; quoted_refusal(alloc, 131_071) == Some(SyntaxRefusal::BadToken(0)));
+    assert!(rt; quoted_refusal(alloc, 1000) == None);
+}
+
+#[test]
+fn a_wide_set_is_read(rt: HostRuntime) {
+    let alloc = rt.alloc();
+    assert!(rt; set_refusal(alloc, 50_000) == None);
 }

@@ -207,9 +207,9 @@ operation_claim l op o xs ys x y b cx some cy limit end turns room deep narrow s
       turns = m;
       enough = enough;
       is =
-        ap (reading.chain_at s l) whole ∙ left.is ∙ is
-        ∙ ap (λ k. reading.more s l (reading.operand_at s l) m (offset end (xs ++ o ∷ (ys ++ rest))) (line_of (xs ++ o ∷ (ys ++ rest))) (record { tree = tree.Binary k op x.tree y.tree; depth = max x.depth y.depth + 1 }) rest) line
-        ∙ ap (λ k. reading.more s l (reading.operand_at s l) m (offset end k) (line_of k) (record { tree = tree.Binary (line_of xs) op x.tree y.tree; depth = max x.depth y.depth + 1 }) rest) (sym whole);
+          ap (reading.chain_at s l) whole ∙ left.is ∙ is
+          ∙ ap (λ k. reading.more s l (reading.operand_at s l) m (offset end (xs ++ o ∷ (ys ++ rest))) (line_of (xs ++ o ∷ (ys ++ rest))) (record { tree = tree.Binary k op x.tree y.tree; depth = max x.depth y.depth + 1 }) rest) line
+          ∙ ap (λ k. reading.more s l (reading.operand_at s l) m (offset end k) (line_of k) (record { tree = tree.Binary (line_of xs) op x.tree y.tree; depth = max x.depth y.depth + 1 }) rest) (sym whole);
     }
 
 -- ---- prefixes
@@ -252,7 +252,7 @@ one_more_prefix s p operand t ts rest f is e fits =
     let first : g ≡ f = ap (λ (z : Formed × List Token). z.0) (sym same) in
     let second : x.1 ≡ rest = ap (λ (z : Formed × List Token). z.1) (sym same) in
     let under : (reading.under_prefixes s.limit p (reading.prefixes p ts) (Ok x.0) >>= (λ g. made s.limit t.start (prefixed p t.line g.tree) g.depth)) ≡ Ok (record { tree = prefixed p t.line f.tree; depth = f.depth + 1 }) =
-      bind _ f (λ g. made s.limit t.start (prefixed p t.line g.tree) g.depth) (eg ∙ ap Ok first) ∙ made_given s.limit t.start (prefixed p t.line f.tree) f.depth fits in
+    bind _ f (λ g. made s.limit t.start (prefixed p t.line g.tree) g.depth) (eg ∙ ap Ok first) ∙ made_given s.limit t.start (prefixed p t.line f.tree) f.depth fits in
     rw test (bind (operand (reading.behind_prefixes p ts)) x (λ x. with_rest x.1 (reading.under_prefixes s.limit p (reading.prefixes p ts) (Ok x.0) >>= (λ g. made s.limit t.start (prefixed p t.line g.tree) g.depth))) ex
     ∙ ap (with_rest x.1) under ∙ ap (λ l. Ok (record { tree = prefixed p t.line f.tree; depth = f.depth + 1 }, l)) second)
 
@@ -446,8 +446,8 @@ one_part_claim ts f claim t limit end turns room deep narrow short rest sep =
       turns = length rest;
       enough = omega arith;
       is =
-        bind (s.inner (ts ++ rest)) (formed f, rest) (λ f. reading.behind_part s t f.0 f.1 (sign_at f.1)) (within_given ts f claim limit end turns (room - 1) deep narrow short rest (separates_binding (sign_at rest) sep))
-        ∙ behind_first s t (formed f) rest (sign_at rest) sep;
+          bind (s.inner (ts ++ rest)) (formed f, rest) (λ f. reading.behind_part s t f.0 f.1 (sign_at f.1)) (within_given ts f claim limit end turns (room - 1) deep narrow short rest (separates_binding (sign_at rest) sep))
+          ∙ behind_first s t (formed f) rest (sign_at rest) sep;
     }
 
 more_parts_claim : (k : Token) (xs ys : List Token) (p : Parts) (y : Form) → PartsClaim xs p → sign_of k.kind ≡ sign.Comma → Claim expression ys y
@@ -491,7 +491,7 @@ chosen_values_claim line g k n i b name fs ss ps f x p cf isk named isi cx isb c
     let long : length (fs ++ k ∷ n ∷ i ∷ (ss ++ b ∷ ps)) ≡ length fs + length (k ∷ n ∷ i ∷ (ss ++ b ∷ ps)) = length-append fs (k ∷ n ∷ i ∷ (ss ++ b ∷ ps)) in
     let longer : length (ss ++ b ∷ ps) ≡ length ss + length (b ∷ ps) = length-append ss (b ∷ ps) in
     let whole : (fs ++ k ∷ n ∷ i ∷ (ss ++ b ∷ ps)) ++ c ∷ rest ≡ fs ++ k ∷ n ∷ i ∷ (ss ++ b ∷ (ps ++ c ∷ rest)) =
-      append_assoc fs (k ∷ n ∷ i ∷ (ss ++ b ∷ ps)) (c ∷ rest) ∙ ap (λ l. fs ++ k ∷ n ∷ i ∷ l) (append_assoc ss (b ∷ ps) (c ∷ rest)) in
+    append_assoc fs (k ∷ n ∷ i ∷ (ss ++ b ∷ ps)) (c ∷ rest) ∙ ap (λ l. fs ++ k ∷ n ∷ i ∷ l) (append_assoc ss (b ∷ ps) (c ∷ rest)) in
     let first = within_given fs f cf limit end turns (room - 1) (omega arith) (omega arith) (omega arith) (k ∷ n ∷ i ∷ (ss ++ b ∷ (ps ++ c ∷ rest))) (closes_by k sign.Colon (n ∷ i ∷ (ss ++ b ∷ (ps ++ c ∷ rest))) isk (omega arith)) in
     let second = within_given ss x cx limit end turns (room - 1) (omega arith) (omega arith) (omega arith) (b ∷ (ps ++ c ∷ rest)) (closes_by b sign.Bar (ps ++ c ∷ rest) isb (omega arith)) in
     let third = within_given ps p cp limit end turns (room - 1) (omega arith) (omega arith) (omega arith) (c ∷ rest) (closes_by c close rest isc loose) in
@@ -528,7 +528,7 @@ choice_claim i t e cs xs ys c x y isi cc ist cx ise cy limit end turns room deep
     let long : length (cs ++ t ∷ (xs ++ e ∷ ys)) ≡ length cs + length (t ∷ (xs ++ e ∷ ys)) = length-append cs (t ∷ (xs ++ e ∷ ys)) in
     let longer : length (xs ++ e ∷ ys) ≡ length xs + length (e ∷ ys) = length-append xs (e ∷ ys) in
     let whole : (cs ++ t ∷ (xs ++ e ∷ ys)) ++ rest ≡ cs ++ t ∷ (xs ++ e ∷ (ys ++ rest)) =
-      append_assoc cs (t ∷ (xs ++ e ∷ ys)) rest ∙ ap (λ l. cs ++ t ∷ l) (append_assoc xs (e ∷ ys) rest) in
+    append_assoc cs (t ∷ (xs ++ e ∷ ys)) rest ∙ ap (λ l. cs ++ t ∷ l) (append_assoc xs (e ∷ ys) rest) in
     let first = within_given cs c cc limit end turns room (omega arith) (omega arith) (omega arith) (t ∷ (xs ++ e ∷ (ys ++ rest))) (closes_by t sign.Then (xs ++ e ∷ (ys ++ rest)) ist (omega arith)) in
     let second = within_given xs x cx limit end turns room (omega arith) (omega arith) (omega arith) (e ∷ (ys ++ rest)) (closes_by e sign.Else (ys ++ rest) ise (omega arith)) in
     let third = within_given ys y cy limit end turns room (omega arith) (omega arith) (omega arith) rest h in

@@ -470,12 +470,13 @@ under_sound limit room p x rest (t ∷ ts) f e s =
           let P : Formed → Type 0 = λ z. Stands limit room (prefixing p) (t ∷ ts) z rest in
           subst P same (record { front = s'.front; nest = s'.nest; split = s'.split; produced = no_prefix p s'.front (form x.tree x.depth s'.nest) s'.produced; shallow = s'.shallow; narrow = s'.narrow })
     ] where
-  under_behind : (limit room : ℕ) (p : Prefix) (x : Formed) (rest : List Token) (t : Token) (ts : List Token) → same_sign (sign_of t.kind) (prefix_sign p) ≡ true
-      → Stands limit room (unprefixed p) (if same_sign (sign_of t.kind) (prefix_sign p) then reading.behind_prefixes p ts else t ∷ ts) x rest → Stands limit room (unprefixed p) (reading.behind_prefixes p ts) x rest
-  under_behind limit room p x rest t ts test s = let P : Bool → Type 0 = λ b. Stands limit room (unprefixed p) (if b then reading.behind_prefixes p ts else t ∷ ts) x rest in subst P test s
-  under_front : (limit room : ℕ) (p : Prefix) (x : Formed) (rest : List Token) (t : Token) (ts : List Token) → same_sign (sign_of t.kind) (prefix_sign p) ≡ false
-      → Stands limit room (unprefixed p) (if same_sign (sign_of t.kind) (prefix_sign p) then reading.behind_prefixes p ts else t ∷ ts) x rest → Stands limit room (unprefixed p) (t ∷ ts) x rest
-  under_front limit room p x rest t ts test s = let P : Bool → Type 0 = λ b. Stands limit room (unprefixed p) (if b then reading.behind_prefixes p ts else t ∷ ts) x rest in subst P test s
+      under_behind : (limit room : ℕ) (p : Prefix) (x : Formed) (rest : List Token) (t : Token) (ts : List Token) → same_sign (sign_of t.kind) (prefix_sign p) ≡ true
+          → Stands limit room (unprefixed p) (if same_sign (sign_of t.kind) (prefix_sign p) then reading.behind_prefixes p ts else t ∷ ts) x rest → Stands limit room (unprefixed p) (reading.behind_prefixes p ts) x rest
+      under_behind limit room p x rest t ts test s = let P : Bool → Type 0 = λ b. Stands limit room (unprefixed p) (if b then reading.behind_prefixes p ts else t ∷ ts) x rest in subst P test s
+
+      under_front : (limit room : ℕ) (p : Prefix) (x : Formed) (rest : List Token) (t : Token) (ts : List Token) → same_sign (sign_of t.kind) (prefix_sign p) ≡ false
+          → Stands limit room (unprefixed p) (if same_sign (sign_of t.kind) (prefix_sign p) then reading.behind_prefixes p ts else t ∷ ts) x rest → Stands limit room (unprefixed p) (t ∷ ts) x rest
+      under_front limit room p x rest t ts test s = let P : Bool → Type 0 = λ b. Stands limit room (unprefixed p) (if b then reading.behind_prefixes p ts else t ∷ ts) x rest in subst P test s
 
 prefixes_sound : (s : Setting) (p : Prefix) (operand : Reader) → Sound s.limit s.room (unprefixed p) operand → Sound s.limit s.room (prefixing p) (reading.with_prefixes s p operand)
 unfolding reading.with_prefixes
