@@ -122,6 +122,13 @@ impl Tokens {
         &self.list[k]
     }
 
+    /// All of them.
+    pub fn as_slice(&self) -> &[Token]
+        ensures { result.now ≡ self.now.list }
+    {
+        self.list.as_slice()
+    }
+
     /// The length of the text in bytes.
     pub fn text_length(&self) -> usize
         ensures { result ≡ self.now.text_length }

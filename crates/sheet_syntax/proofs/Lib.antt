@@ -1,0 +1,4 @@
+pub mod Chains
+pub mod Formulas
+pub mod Loops
+pub mod Turns

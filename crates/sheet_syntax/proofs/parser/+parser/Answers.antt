@@ -1,0 +1,150 @@
+use Rattle.std.proofs.Common.{Bor, rules, ◌≡◌, ℕ, suc, ◌+◌, ◌-◌, ◌<◌, ◌∷◌, [], ◌++◌, List, length, Some, None, Ok, Err, true, false, sym, ap, ◌∙◌, subst, refl, arith}
+use denote.Enum.Bare.{same_true, same_false}
+use Rattle.sheet_tokens.specs.declared.token.Token.{Token}
+use Rattle.sheet_tokens.specs.Tokens.{Reads}
+use Rattle.sheet_trees.specs.contracts.sign.Sign.{the_type}
+use Rattle.sheet_trees.specs.declared.tree.Formed.{Formed}
+use Rattle.sheet_tokens.specs.declared.token.SyntaxRefusal.TheVariants.{Expected}
+use Rattle.sheet_syntax.specs.declared.parser.Room.{Room}
+use Rattle.sheet_trees.specs.declared.operators.Operator.{Operator}
+use Rattle.sheet_trees.specs.declared.sign.Sign.{Sign}
+use Rattle.sheet_trees.specs.declared.sign.Sign.TheVariants as sign
+use Rattle.sheet_trees.specs.Signs.{sign_of, same_sign}
+use Rattle.sheet_trees.specs.Operators.{operator_among, repeats}
+use Rattle.sheet_trees.specs.Reading.{Answer, Setting, setting, operand_at, chain_at, offset, line_of, more, with_rest, within, parts, operation}
+use Rattle.sheet_syntax.proofs.Loops.{passed, no_tokens}
+use Rattle.sheet_syntax.proofs.Chains.{one_less, chain_refused, chain_begun, more_out, more_end, more_other, more_refused, more_too_deep, more_on, more_once, parts_out, parts_closed, parts_refused, parts_stopped, parts_on}
+use Rattle.sheet_syntax.proofs.Turns.{turn_over, turn_if, turn_or, turn_none, other_sign}
+use Rattle.sheet_syntax.proofs.parser.+parser.Goals as goal
+
+abbrev read : Formed × Bor (List Token) → Formed × List Token
+read x = (x.0, x.1.now)
+
+pub chain-returns-in-Err : goal.chain-returns-in-Err
+chain-returns-in-Err t c =
+    let s = setting 32 c.args.room.end c.args.room.turns c.args.room.brackets in
+    passed read read c.in-Err.refusal (operand_at s c.args.level c.args.rest.now) (chain_at s c.args.level c.args.rest.now) c.in-Err.ensures (λ d h. chain_refused s c.args.level c.args.rest.now d h)
+
+pub chain-loop-init : goal.chain-loop-init
+chain-loop-init t c =
+    let s = setting 32 c.args.room.end c.args.room.turns c.args.room.brackets in
+    let whole : length c.in-Ok.read.1.now - 0 ≡ length c.in-Ok.read.1.now = omega arith in
+    rw (whole, c.offset-at.ensures, c.line_of-line.ensures) (chain_begun s c.args.level c.args.rest.now (c.in-Ok.read.0, c.in-Ok.read.1.now) c.in-Ok.ensures)
+
+pub chain-returns-in_default : goal.chain-returns-in_default
+chain-returns-in_default t c =
+    let s = setting 32 c.args.room.end c.args.room.turns c.args.room.brackets in
+    sym c.loop.invariant ∙ more_end s c.args.level (operand_at s c.args.level) (length c.in-Ok.read.1.now - c.loop.counter) c.offset-at.result c.line_of-line.result c.loop.formed c.loop.remaining.now (no_tokens c.loop.remaining.now c.in_default.ensures.cases)
+
+pub chain-returns-in_default-operator_among : goal.chain-returns-in_default-operator_among
+chain-returns-in_default-operator_among t c =
+    let s = setting 32 c.args.room.end c.args.room.turns c.args.room.brackets in
+    let none : operator_among c.args.level (sign_of c.in-Some.token.now.kind) ≡ None = sym (c.in_default-operator_among.ensures ∙ ap (operator_among c.args.level) c.sign_of.ensures) in
+    sym c.loop.invariant ∙ more_other s c.args.level (operand_at s c.args.level) (length c.in-Ok.read.1.now - c.loop.counter) c.offset-at.result c.line_of-line.result c.loop.formed c.loop.remaining.now c.in-Some.others.now c.in-Some.token.now c.in-Some.ensures.cases.0 none
+
+pub chain-returns-in-Err-operand : goal.chain-returns-in-Err-operand
+chain-returns-in-Err-operand t c =
+    let s = setting 32 c.args.room.end c.args.room.turns c.args.room.brackets in
+    let some : operator_among c.args.level (sign_of c.in-Some.token.now.kind) ≡ Some c.in-Some-operator_among.operator = sym (c.in-Some-operator_among.ensures ∙ ap (operator_among c.args.level) c.sign_of.ensures) in
+    passed read read c.in-Err-operand.refusal (operand_at s c.args.level c.in-Some.others.now) (chain_at s c.args.level c.args.rest.now) c.in-Err-operand.ensures
+    (λ d h. sym c.loop.invariant ∙ more_refused s c.args.level (operand_at s c.args.level) (length c.in-Ok.read.1.now - c.loop.counter) (length c.in-Ok.read.1.now - (c.loop.counter + 1)) c.offset-at.result c.line_of-line.result c.loop.formed
+    c.loop.remaining.now c.in-Some.others.now c.in-Some.token.now c.in-Some-operator_among.operator d (one_less (length c.in-Ok.read.1.now) c.loop.counter c.loop-test.true) c.in-Some.ensures.cases.0 some h)
+
+pub chain-returns-in-Err-operation : goal.chain-returns-in-Err-operation
+chain-returns-in-Err-operation t c =
+    let s = setting 32 c.args.room.end c.args.room.turns c.args.room.brackets in
+    let some : operator_among c.args.level (sign_of c.in-Some.token.now.kind) ≡ Some c.in-Some-operator_among.operator = sym (c.in-Some-operator_among.ensures ∙ ap (operator_among c.args.level) c.sign_of.ensures) in
+    passed (λ (f : Formed). f) read c.in-Err-operation.refusal (operation 32 c.offset-at.result c.line_of-line.result c.in-Some-operator_among.operator c.loop.formed c.in-Ok-operand.read.0) (chain_at s c.args.level c.args.rest.now) c.in-Err-operation.ensures
+    (λ d h. sym c.loop.invariant ∙ more_too_deep s c.args.level (operand_at s c.args.level) (length c.in-Ok.read.1.now - c.loop.counter) (length c.in-Ok.read.1.now - (c.loop.counter + 1)) c.offset-at.result c.line_of-line.result c.loop.formed
+    c.loop.remaining.now c.in-Some.others.now c.in-Some.token.now c.in-Some-operator_among.operator (c.in-Ok-operand.read.0, c.in-Ok-operand.read.1.now) d (one_less (length c.in-Ok.read.1.now) c.loop.counter c.loop-test.true) c.in-Some.ensures.cases.0 some
+    c.in-Ok-operand.ensures h)
+
+pub chain-returns-then-not-repeats : goal.chain-returns-then-not-repeats
+chain-returns-then-not-repeats t c =
+    let s = setting 32 c.args.room.end c.args.room.turns c.args.room.brackets in
+    let some : operator_among c.args.level (sign_of c.in-Some.token.now.kind) ≡ Some c.in-Some-operator_among.operator = sym (c.in-Some-operator_among.ensures ∙ ap (operator_among c.args.level) c.sign_of.ensures) in
+    sym c.loop.invariant ∙ more_once s c.args.level (operand_at s c.args.level) (length c.in-Ok.read.1.now - c.loop.counter) (length c.in-Ok.read.1.now - (c.loop.counter + 1)) c.offset-at.result c.line_of-line.result c.loop.formed c.in-Ok-operation.longer
+    c.loop.remaining.now c.in-Some.others.now c.in-Some.token.now c.in-Some-operator_among.operator (c.in-Ok-operand.read.0, c.in-Ok-operand.read.1.now) (one_less (length c.in-Ok.read.1.now) c.loop.counter c.loop-test.true) c.in-Some.ensures.cases.0 some
+    c.in-Ok-operand.ensures c.in-Ok-operation.ensures (sym c.repeats.ensures ∙ c.if-not-repeats.true)
+
+pub chain-loop-preserved : goal.chain-loop-preserved
+chain-loop-preserved t c =
+    let s = setting 32 c.args.room.end c.args.room.turns c.args.room.brackets in
+    let some : operator_among c.args.level (sign_of c.in-Some.token.now.kind) ≡ Some c.in-Some-operator_among.operator = sym (c.in-Some-operator_among.ensures ∙ ap (operator_among c.args.level) c.sign_of.ensures) in
+    sym (more_on s c.args.level (operand_at s c.args.level) (length c.in-Ok.read.1.now - c.loop.counter) (length c.in-Ok.read.1.now - (c.loop.counter + 1)) c.offset-at.result c.line_of-line.result c.loop.formed c.in-Ok-operation.longer
+    c.loop.remaining.now c.in-Some.others.now c.in-Some.token.now c.in-Some-operator_among.operator (c.in-Ok-operand.read.0, c.in-Ok-operand.read.1.now) (one_less (length c.in-Ok.read.1.now) c.loop.counter c.loop-test.true) c.in-Some.ensures.cases.0 some
+    c.in-Ok-operand.ensures c.in-Ok-operation.ensures (sym c.repeats.ensures ∙ c.if-not-repeats.false))
+    ∙ c.loop.invariant
+
+pub chain-returns : goal.chain-returns
+chain-returns t c =
+    let s = setting 32 c.args.room.end c.args.room.turns c.args.room.brackets in
+    sym c.loop.invariant ∙ more_out s c.args.level (operand_at s c.args.level) (length c.in-Ok.read.1.now - c.loop.counter) c.offset-at.result c.line_of-line.result c.loop.formed c.loop.remaining.now (omega (arith, c.loop-test.false))
+
+pub parts-returns-in-Ok : goal.parts-returns-in-Ok
+parts-returns-in-Ok t c =
+    let s = setting 32 c.args.room.end c.args.room.turns c.args.room.brackets in
+    sym c.loop.invariant ∙ parts_closed s (length c.args.rest.now - c.loop.counter) (length c.args.rest.now - (c.loop.counter + 1)) c.args.token.now c.loop.trees c.loop.deepest c.loop.remaining.now c.in-Some.behind.now
+    (one_less (length c.args.rest.now) c.loop.counter c.loop-test.true) (sym c.in-Some.ensures) ∙ ap (with_rest c.in-Some.behind.now) c.in-Ok.ensures
+
+pub parts-returns-in-Err : goal.parts-returns-in-Err
+parts-returns-in-Err t c =
+    let s = setting 32 c.args.room.end c.args.room.turns c.args.room.brackets in
+    passed (λ (f : Formed). f) read c.in-Err.refusal _ _ c.in-Err.ensures
+    (λ d h. sym c.loop.invariant ∙ parts_closed s (length c.args.rest.now - c.loop.counter) (length c.args.rest.now - (c.loop.counter + 1)) c.args.token.now c.loop.trees c.loop.deepest c.loop.remaining.now c.in-Some.behind.now
+    (one_less (length c.args.rest.now) c.loop.counter c.loop-test.true) (sym c.in-Some.ensures) ∙ ap (with_rest c.in-Some.behind.now) h)
+
+pub parts-returns-in-Err-expect : goal.parts-returns-in-Err-expect
+parts-returns-in-Err-expect t c =
+    let s = setting 32 c.args.room.end c.args.room.turns c.args.room.brackets in
+    passed (λ (b : Bor (List Token)). b.now) read c.in-Err-expect.refusal _ _ c.in-Err-expect.ensures
+    (λ d h. sym c.loop.invariant ∙ parts_refused s (length c.args.rest.now - c.loop.counter) (length c.args.rest.now - (c.loop.counter + 1)) c.args.token.now c.loop.trees c.loop.deepest c.loop.remaining.now d
+    (one_less (length c.args.rest.now) c.loop.counter c.loop-test.true) (sym c.in_default.ensures) h)
+
+pub parts-returns-in-Err-turn : goal.parts-returns-in-Err-turn
+parts-returns-in-Err-turn t c =
+    let s = setting 32 c.args.room.end c.args.room.turns c.args.room.brackets in
+    let room : within 32 c.inside.result.end c.inside.result.turns c.inside.result.brackets c.in-Ok-expect.behind.now ≡ s.inner c.in-Ok-expect.behind.now = ap (λ (r : Room). within 32 r.end r.turns r.brackets c.in-Ok-expect.behind.now) c.inside.ensures in
+    passed read read c.in-Err-turn.refusal (within 32 c.inside.result.end c.inside.result.turns c.inside.result.brackets c.in-Ok-expect.behind.now)
+    (parts s (length c.args.rest.now) c.args.token.now (c.args.first.tree ∷ []) c.args.first.depth c.args.rest.now) c.in-Err-turn.ensures
+    (λ d h. sym c.loop.invariant ∙ parts_stopped s (length c.args.rest.now - c.loop.counter) (length c.args.rest.now - (c.loop.counter + 1)) c.args.token.now c.loop.trees c.loop.deepest c.loop.remaining.now c.in-Ok-expect.behind.now d
+    (one_less (length c.args.rest.now) c.loop.counter c.loop-test.true) c.in-Ok-expect.ensures (sym room ∙ h))
+
+pub parts-loop-preserved : goal.parts-loop-preserved
+parts-loop-preserved t c =
+    let s = setting 32 c.args.room.end c.args.room.turns c.args.room.brackets in
+    let m = length c.args.rest.now - (c.loop.counter + 1) in
+    let room : within 32 c.inside.result.end c.inside.result.turns c.inside.result.brackets c.in-Ok-expect.behind.now ≡ s.inner c.in-Ok-expect.behind.now = ap (λ (r : Room). within 32 r.end r.turns r.brackets c.in-Ok-expect.behind.now) c.inside.ensures in
+    ap (λ l. parts s m c.args.token.now l c.max-deepest.result c.in-Ok-turn.others.now) c.in_ok-push-in-Ok-turn.ensures.ok
+    ∙ ap (λ n. parts s m c.args.token.now (c.loop.trees ++ c.in-Ok-turn.part.tree ∷ []) n c.in-Ok-turn.others.now) c.max-deepest.ensures
+    ∙ sym (parts_on s (length c.args.rest.now - c.loop.counter) m c.args.token.now c.loop.trees c.loop.deepest c.loop.remaining.now c.in-Ok-expect.behind.now (c.in-Ok-turn.part, c.in-Ok-turn.others.now)
+    (one_less (length c.args.rest.now) c.loop.counter c.loop-test.true) c.in-Ok-expect.ensures (sym room ∙ c.in-Ok-turn.ensures))
+    ∙ c.loop.invariant
+
+pub parts-returns : goal.parts-returns
+parts-returns t c =
+    let s = setting 32 c.args.room.end c.args.room.turns c.args.room.brackets in
+    sym c.loop.invariant ∙ parts_out s (length c.args.rest.now - c.loop.counter) c.args.token.now c.loop.trees c.loop.deepest c.loop.remaining.now (omega (arith, c.loop-test.false)) ∙ ap (λ o. Err (Expected o)) (sym c.offset.ensures)
+
+pub turn-returns-then-room-eq0 : goal.turn-returns-then-room-eq0
+turn-returns-then-room-eq0 t c = turn_over 32 c.args.room.end c.args.room.turns c.args.room.brackets c.args.rest.now c.if-room-eq0.true ∙ ap (λ o. Err (Expected o)) (sym c.offset.ensures)
+
+pub turn-returns-in_default : goal.turn-returns-in_default
+turn-returns-in_default t c =
+    let P : Answer (Formed × List Token) → Type 0 = λ told. Reads read c.chain.result told in
+    let some : 0 < c.args.room.turns = omega (arith, c.if-room-eq0.false) in
+    subst P (sym (turn_none 32 c.args.room.end c.args.room.turns c.args.room.brackets c.args.rest.now some (no_tokens c.args.rest.now c.in_default.ensures.cases))) c.chain.ensures
+
+pub turn-returns-then-eq : goal.turn-returns-then-eq
+turn-returns-then-eq t c =
+    let P : Answer (Formed × List Token) → Type 0 = λ told. Reads read c.chosen.result told in
+    let some : 0 < c.args.room.turns = omega (arith, c.if-room-eq0.false) in
+    let is : sign_of c.in-Some.token.now.kind ≡ sign.If = sym c.sign_of.ensures ∙ same_true the_type (search rules) _ _ (sym c.if-eq.ensures) in
+    subst P (sym (turn_if 32 c.args.room.end c.args.room.turns c.args.room.brackets c.in-Some.token.now c.args.rest.now c.in-Some.behind.now some c.in-Some.ensures.cases.0 is)) c.chosen.ensures
+
+pub turn-returns : goal.turn-returns
+turn-returns t c =
+    let P : Answer (Formed × List Token) → Type 0 = λ told. Reads read c.chain-2.result told in
+    let some : 0 < c.args.room.turns = omega (arith, c.if-room-eq0.false) in
+    let other : same_sign (sign_of c.in-Some.token.now.kind) sign.If ≡ false = other_sign (sign_of c.in-Some.token.now.kind) sign.If (λ e. same_false the_type _ _ (sym c.if-eq.ensures) (c.sign_of.ensures ∙ e)) in
+    subst P (sym (turn_or 32 c.args.room.end c.args.room.turns c.args.room.brackets c.in-Some.token.now c.args.rest.now c.in-Some.behind.now some c.in-Some.ensures.cases.0 other)) c.chain-2.ensures

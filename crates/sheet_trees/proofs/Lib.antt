@@ -1,0 +1,5 @@
+pub mod Answering
+pub mod Binding
+pub mod Completeness
+pub mod SignLemmas
+pub mod Soundness

@@ -1,0 +1,4 @@
+pub mod Grammar
+pub mod Operators
+pub mod Reading
+pub mod Signs

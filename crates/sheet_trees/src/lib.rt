@@ -1,0 +1,12 @@
+//! Formulas as they are written: their trees, the signs of their tokens, and the grammar.
+#![tactic(auto)]
+
+mod law;
+mod operators;
+mod sign;
+mod tree;
+
+pub use law::tokens_stand_for_one_tree;
+pub use operators::{Function, Gathering, Level, Operator, Prefix, Quantifier};
+pub use sign::{Sign, sign_of};
+pub use tree::{Formed, Tree};
