@@ -1,6 +1,8 @@
 //! Definitions as they are written: their data, the grammar that they obey, and the text that they are printed as.
 #![tactic(auto)]
 
+ghost use Rattle.sheet_definitions.specs.Examples.{SmallIsRead, SmallIsPrinted};
+
 mod definition;
 mod statement;
 
@@ -9,3 +11,13 @@ pub use definition::{
     View,
 };
 pub use statement::{Statement, Target};
+
+/// The text of a small definition stands for it.
+pub fn small_is_read()
+    ensures { SmallIsRead }
+{}
+
+/// A small definition is printed as its text.
+pub fn small_is_printed()
+    ensures { SmallIsPrinted }
+{}
