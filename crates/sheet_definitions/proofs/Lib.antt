@@ -1,3 +1,6 @@
+pub mod Club
+pub mod Courses
 pub mod Lifting
-pub mod Reading
 pub mod Printed
+pub mod Tokens
+pub mod Workshop

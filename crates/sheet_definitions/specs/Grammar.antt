@@ -159,7 +159,7 @@ mutual
     a_let : (w n e : Token) (name : List ℕ) (ts : List Token) (v : Tree) (r : Reach) → IsWord "let" w → IsName name n → IsSymbol "=" e → IsExpression ts v r
         → IsStatement (w ∷ n ∷ e ∷ ts) (statement.Let w.line name v) r
     -- "set" target "=" expr
-    a_set : (w e : Token) (ts us : List Token) (t : Target) (v : Tree) (r s : Reach) → IsWord "set" w → IsTarget ts t r → IsSymbol "=" e → IsExpression us v s
+    an_assignment : (w e : Token) (ts us : List Token) (t : Target) (v : Tree) (r s : Reach) → IsWord "set" w → IsTarget ts t r → IsSymbol "=" e → IsExpression us v s
         → IsStatement (w ∷ (ts ++ e ∷ us)) (statement.Set w.line t v) (deepest r s)
     -- "add" expr "to" target
     an_add : (w o : Token) (ts us : List Token) (t : Target) (v : Tree) (r s : Reach) → IsWord "add" w → IsExpression ts v r → IsWord "to" o → IsTarget us t s

@@ -1,3 +1,4 @@
+pub mod Club
 pub mod Examples
 pub mod Grammar
 pub mod Printing

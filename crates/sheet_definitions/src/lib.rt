@@ -1,7 +1,8 @@
 //! Definitions as they are written: their data, the grammar that they obey, and the text that they are printed as.
 #![tactic(auto)]
 
-ghost use Rattle.sheet_definitions.specs.Examples.{SmallIsRead, SmallIsPrinted};
+ghost use Rattle.sheet_definitions.specs.Club.{ClubIsRead, ClubIsPrinted};
+ghost use Rattle.sheet_definitions.specs.Examples.{ExamplesAreRead, ExamplesArePrinted};
 
 mod definition;
 mod statement;
@@ -12,12 +13,22 @@ pub use definition::{
 };
 pub use statement::{Statement, Target};
 
-/// The text of a small definition stands for it.
-pub fn small_is_read()
-    ensures { SmallIsRead }
+/// The texts of two small definitions, in which each production stands, stand for them.
+pub fn examples_are_read()
+    ensures { ExamplesAreRead }
 {}
 
-/// A small definition is printed as its text.
-pub fn small_is_printed()
-    ensures { SmallIsPrinted }
+/// Each of them is printed as its text.
+pub fn examples_are_printed()
+    ensures { ExamplesArePrinted }
+{}
+
+/// The text of the club stands for its definition.
+pub fn club_is_read()
+    ensures { ClubIsRead }
+{}
+
+/// The club is printed as that text, with parentheses round an operand that has an operator.
+pub fn club_is_printed()
+    ensures { ClubIsPrinted }
 {}
