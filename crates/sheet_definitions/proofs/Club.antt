@@ -106,11 +106,11 @@ from k count = take count (drop k tokens)
 
 declaration_1_is : IsDeclaration (from 0 2) (the 0) (record { depth = 0; nest = 0; blocks = 0 })
 declaration_1_is =
-    (the_callers (t 0) _ _ refl (a_path _ _ (one_name (t 1) _ refl)))
+    the_callers (t 0) _ _ refl (a_path _ _ (one_name (t 1) _ refl))
 
 declaration_2_is : IsDeclaration (from 2 38) (the 1) (record { depth = 3; nest = 1; blocks = 0 })
 declaration_2_is =
-    (a_column _ _ _
+    a_column _ _ _
     (an_object_column (t 2) (t 3) (t 4) (t 39) _ _ _ _ refl refl refl
     (more_columns _ _ _ _ _ _
     (a_state_column (t 5) (t 6) (t 7) _ _ _ _ _ _ _ _ refl refl refl (texts (t 8) refl) (just_one (t 9) refl) left_out)
@@ -131,17 +131,16 @@ declaration_2_is =
     (a_formula_column (t 30) (t 31) (t 32) _ _ _ _ _ _ _ refl refl left_out refl
     (a_formula _ _ _
     (expression_of_sums
-    (an_operation level.Sums operator.Minus (t 34) _ _ _ _ (sums_of_atom (a_leaf (t 33) _ refl))
-    refl
+    (an_operation level.Sums operator.Minus (t 34) _ _ _ _ (sums_of_atom (a_leaf (t 33) _ refl)) refl
     (products_of_atom
     (a_call (t 35) (t 36) (t 38) _ _ _ refl refl
     (expression_of_atom (a_leaf (t 37) _ refl)) refl))))))
     no_columns)))))
-    refl))
+    refl)
 
 declaration_3_is : IsDeclaration (from 40 25) (the 2) (record { depth = 4; nest = 1; blocks = 0 })
 declaration_3_is =
-    (a_column _ _ _
+    a_column _ _ _
     (an_object_column (t 40) (t 41) (t 42) (t 64) _ _ _ _ refl refl refl
     (more_columns _ _ _ _ _ _
     (a_state_column (t 43) (t 44) (t 45) _ _ _ _ _ _ _ _ refl refl refl (texts (t 46) refl) (just_one (t 47) refl) left_out)
@@ -151,8 +150,8 @@ declaration_3_is =
     (expression_of_atom
     (a_comprehension (t 51) (t 63) _ _ refl
     (chosen_values _ gathering.Union (t 53) (t 54) (t 55) (t 57) _ _ _ _ _ _ _
-    (expression_of_atom (a_leaf (t 52) _ refl)) refl refl refl
-    (expression_of_atom (a_leaf (t 56) _ refl)) refl
+    (expression_of_atom (a_leaf (t 52) _ refl)) refl refl refl (expression_of_atom (a_leaf (t 56) _ refl))
+    refl
     (expression_of_comparison
     (an_operation level.Comparison operator.In (t 59) _ _ _ _ (sets_of_atom (a_leaf (t 58) _ refl))
     refl
@@ -160,11 +159,11 @@ declaration_3_is =
     (a_child (t 61) (t 62) _ _ _ (postfix_of_atom (a_leaf (t 60) _ refl)) refl refl)))))
     refl))))
     no_columns))
-    refl))
+    refl)
 
 declaration_4_is : IsDeclaration (from 65 39) (the 3) (record { depth = 2; nest = 0; blocks = 1 })
 declaration_4_is =
-    (one_procedure _ _ _
+    one_procedure _ _ _
     (a_procedure (t 65) (t 66) _ _ _ _ _ _ _ _ _ refl refl
     (some_parameters (t 67) (t 75) _ _ refl
     (more_parameters _ _ (t 71) _ _
@@ -188,16 +187,15 @@ declaration_4_is =
     (a_formula _ _ _ (expression_of_atom (a_leaf (t 94) _ refl))))
     (more_statements _ _ _ _ _ _
     (an_assignment (t 95) (t 99) _ _ _ _ _ _ refl
-    (of_object (t 97) (t 98) _ _ _ _ (a_formula _ _ _ (postfix_of_atom (a_leaf (t 96) _ refl))) refl refl)
-    refl
+    (of_object (t 97) (t 98) _ _ _ _ (a_formula _ _ _ (postfix_of_atom (a_leaf (t 96) _ refl))) refl refl) refl
     (a_formula _ _ _ (expression_of_atom (a_leaf (t 100) _ refl))))
     (more_statements _ _ _ _ _ _
     (a_reply (t 101) _ _ _ refl (a_formula _ _ _ (expression_of_atom (a_leaf (t 102) _ refl)))) no_statements)))))
-    refl)))
+    refl))
 
 declaration_5_is : IsDeclaration (from 104 23) (the 4) (record { depth = 1; nest = 0; blocks = 1 })
 declaration_5_is =
-    (one_procedure _ _ _
+    one_procedure _ _ _
     (a_procedure (t 104) (t 105) _ _ _ _ _ _ _ _ _ refl refl
     (some_parameters (t 106) (t 110) _ _ refl
     (one_parameter _ _ (a_parameter (t 107) (t 108) _ _ _ refl refl (texts (t 109) refl))) (omega arith) refl)
@@ -211,11 +209,11 @@ declaration_5_is =
     (a_formula _ _ _ (expression_of_atom (a_leaf (t 123) _ refl))))
     (more_statements _ _ _ _ _ _
     (a_reply (t 124) _ _ _ refl (a_formula _ _ _ (expression_of_atom (a_leaf (t 125) _ refl)))) no_statements)))
-    refl)))
+    refl))
 
 declaration_6_is : IsDeclaration (from 127 21) (the 5) (record { depth = 1; nest = 0; blocks = 1 })
 declaration_6_is =
-    (one_procedure _ _ _
+    one_procedure _ _ _
     (a_procedure (t 127) (t 128) _ _ _ _ _ _ _ _ _ refl refl
     (some_parameters (t 129) (t 137) _ _ refl
     (more_parameters _ _ (t 133) _ _
@@ -229,15 +227,15 @@ declaration_6_is =
     (of_object (t 143) (t 144) _ _ _ _ (a_formula _ _ _ (postfix_of_atom (a_leaf (t 142) _ refl))) refl refl) refl
     (a_formula _ _ _ (expression_of_atom (a_leaf (t 146) _ refl))))
     no_statements)
-    refl)))
+    refl))
 
 declaration_7_is : IsDeclaration (from 148 49) (the 6) (record { depth = 4; nest = 1; blocks = 1 })
 declaration_7_is =
-    (one_procedure _ _ _
+    one_procedure _ _ _
     (a_procedure (t 148) (t 149) _ _ _ _ _ _ _ _ _ refl refl
     (some_parameters (t 150) (t 154) _ _ refl
-    (one_parameter _ _ (a_parameter (t 151) (t 152) _ _ _ refl refl (objects _ _ (a_path _ _ (one_name (t 153) _ refl)))))
-    (omega arith) refl)
+    (one_parameter _ _ (a_parameter (t 151) (t 152) _ _ _ refl refl (objects _ _ (a_path _ _ (one_name (t 153) _ refl))))) (omega arith)
+    refl)
     left_out
     (a_block (t 155) (t 196) _ _ _ refl
     (more_statements _ _ _ _ _ _
@@ -255,8 +253,8 @@ declaration_7_is =
     (expression_of_negation
     (a_prefix prefix.Not (t 166) _ _ refl
     (negation_of_comparison
-    (an_operation level.Comparison operator.In (t 168) _ _ _ _
-    (sets_of_atom (a_leaf (t 167) _ refl)) refl
+    (an_operation level.Comparison operator.In (t 168) _ _ _ _ (sets_of_atom (a_leaf (t 167) _ refl))
+    refl
     (sets_of_postfix
     (a_child (t 170) (t 171) _ _ _ (postfix_of_atom (a_leaf (t 169) _ refl)) refl refl)))))))
     refl refl)
@@ -281,11 +279,11 @@ declaration_7_is =
     (more_statements _ _ _ _ _ _
     (a_reply (t 194) _ _ _ refl (a_formula _ _ _ (expression_of_atom (a_leaf (t 195) _ refl))))
     no_statements))))))
-    refl)))
+    refl))
 
 declaration_8_is : IsDeclaration (from 197 46) (the 7) (record { depth = 4; nest = 0; blocks = 1 })
 declaration_8_is =
-    (one_procedure _ _ _
+    one_procedure _ _ _
     (a_procedure (t 197) (t 198) _ _ _ _ _ _ _ _ _ refl refl
     (some_parameters (t 199) (t 207) _ _ refl
     (more_parameters _ _ (t 203) _ _
@@ -300,8 +298,7 @@ declaration_8_is =
     (expression_of_negation
     (a_prefix prefix.Not (t 212) _ _ refl
     (negation_of_comparison
-    (an_operation level.Comparison operator.In (t 214) _ _ _ _ (sets_of_atom (a_leaf (t 213) _ refl))
-    refl
+    (an_operation level.Comparison operator.In (t 214) _ _ _ _ (sets_of_atom (a_leaf (t 213) _ refl)) refl
     (sets_of_postfix
     (a_child (t 216) (t 217) _ _ _ (postfix_of_atom (a_leaf (t 215) _ refl)) refl refl)))))))
     refl refl)
@@ -323,15 +320,15 @@ declaration_8_is =
     (a_formula _ _ _ (expression_of_atom (a_leaf (t 239) _ refl))))
     (more_statements _ _ _ _ _ _
     (a_reply (t 240) _ _ _ refl (a_formula _ _ _ (expression_of_atom (a_leaf (t 241) _ refl)))) no_statements)))))
-    refl)))
+    refl))
 
 declaration_9_is : IsDeclaration (from 243 25) (the 8) (record { depth = 4; nest = 1; blocks = 1 })
 declaration_9_is =
-    (one_procedure _ _ _
+    one_procedure _ _ _
     (a_procedure (t 243) (t 244) _ _ _ _ _ _ _ _ _ refl refl
     (some_parameters (t 245) (t 249) _ _ refl
-    (one_parameter _ _ (a_parameter (t 246) (t 247) _ _ _ refl refl (objects _ _ (a_path _ _ (one_name (t 248) _ refl)))))
-    (omega arith) refl)
+    (one_parameter _ _ (a_parameter (t 246) (t 247) _ _ _ refl refl (objects _ _ (a_path _ _ (one_name (t 248) _ refl))))) (omega arith)
+    refl)
     left_out
     (a_block (t 250) (t 267) _ _ _ refl
     (more_statements _ _ _ _ _ _
@@ -351,28 +348,28 @@ declaration_9_is =
     refl (sets_of_atom (a_leaf (t 265) _ refl)))))
     refl))))
     no_statements)
-    refl)))
+    refl))
 
 declaration_10_is : IsDeclaration (from 268 13) (the 9) (record { depth = 1; nest = 0; blocks = 1 })
 declaration_10_is =
-    (one_procedure _ _ _
+    one_procedure _ _ _
     (a_procedure (t 268) (t 269) _ _ _ _ _ _ _ _ _ refl refl
     (some_parameters (t 270) (t 274) _ _ refl
-    (one_parameter _ _ (a_parameter (t 271) (t 272) _ _ _ refl refl (objects _ _ (a_path _ _ (one_name (t 273) _ refl)))))
-    (omega arith) refl)
+    (one_parameter _ _ (a_parameter (t 271) (t 272) _ _ _ refl refl (objects _ _ (a_path _ _ (one_name (t 273) _ refl))))) (omega arith)
+    refl)
     (stated _ _ _ (an_allow (t 275) _ _ _ refl (a_formula _ _ _ (expression_of_atom (a_leaf (t 276) _ refl)))))
     (a_block (t 277) (t 280) _ _ _ refl
     (more_statements _ _ _ _ _ _
     (a_delete (t 278) _ _ _ refl (a_formula _ _ _ (expression_of_atom (a_leaf (t 279) _ refl)))) no_statements)
-    refl)))
+    refl))
 
 declaration_11_is : IsDeclaration (from 281 25) (the 10) (record { depth = 2; nest = 0; blocks = 2 })
 declaration_11_is =
-    (one_procedure _ _ _
+    one_procedure _ _ _
     (a_procedure (t 281) (t 282) _ _ _ _ _ _ _ _ _ refl refl
     (some_parameters (t 283) (t 287) _ _ refl
-    (one_parameter _ _ (a_parameter (t 284) (t 285) _ _ _ refl refl (objects _ _ (a_path _ _ (one_name (t 286) _ refl)))))
-    (omega arith) refl)
+    (one_parameter _ _ (a_parameter (t 284) (t 285) _ _ _ refl refl (objects _ _ (a_path _ _ (one_name (t 286) _ refl))))) (omega arith)
+    refl)
     (stated _ _ _ (an_allow (t 288) _ _ _ refl (a_formula _ _ _ (expression_of_atom (a_leaf (t 289) _ refl)))))
     (a_block (t 290) (t 305) _ _ _ refl
     (more_statements _ _ _ _ _ _
@@ -386,11 +383,11 @@ declaration_11_is =
     (more_statements _ _ _ _ _ _
     (a_check (t 301) (t 303) (t 304) _ _ _ _ refl (a_formula _ _ _ (expression_of_atom (a_leaf (t 302) _ refl))) refl refl)
     no_statements))
-    refl)))
+    refl))
 
 declaration_12_is : IsDeclaration (from 306 34) (the 11) (record { depth = 2; nest = 0; blocks = 0 })
 declaration_12_is =
-    (one_view _ _ _
+    one_view _ _ _
     (a_view (t 306) (t 307) (t 310) (t 339) _ _ _ _ _ _ _ _ _ refl refl (no_parameters (t 308) (t 309) refl refl) left_out refl
     (one_more _ _ _ _ _ _
     (one_show _ _ _
@@ -414,11 +411,11 @@ declaration_12_is =
     none))
     refl)
     none))
-    refl))
+    refl)
 
 declaration_13_is : IsDeclaration (from 340 37) (the 12) (record { depth = 3; nest = 1; blocks = 0 })
 declaration_13_is =
-    (one_view _ _ _
+    one_view _ _ _
     (a_view (t 340) (t 341) (t 346) (t 376) _ _ _ _ _ _ _ _ _ refl refl (no_parameters (t 342) (t 343) refl refl)
     (stated _ _ _ (an_allow (t 344) _ _ _ refl (a_formula _ _ _ (expression_of_atom (a_leaf (t 345) _ refl))))) refl
     (one_more _ _ _ _ _ _
@@ -444,7 +441,7 @@ declaration_13_is =
     (a_child (t 373) (t 374) _ _ _ (postfix_of_atom (a_leaf (t 372) _ refl)) refl refl))
     refl)))))
     none))
-    refl))
+    refl)
 
 pub club_is_read : ClubIsRead
 unfolding is_utf8 chars encode is_reserved

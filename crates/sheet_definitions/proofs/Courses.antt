@@ -59,19 +59,19 @@ from k count = take count (drop k tokens)
 
 declaration_1_is : IsDeclaration (from 0 2) (the 0) (record { depth = 0; nest = 0; blocks = 0 })
 declaration_1_is =
-    (the_callers (t 0) _ _ refl (a_path _ _ (one_name (t 1) _ refl)))
+    the_callers (t 0) _ _ refl (a_path _ _ (one_name (t 1) _ refl))
 
 declaration_2_is : IsDeclaration (from 2 9) (the 1) (record { depth = 0; nest = 0; blocks = 0 })
 declaration_2_is =
-    (a_column _ _ _
+    a_column _ _ _
     (an_object_column (t 2) (t 3) (t 4) (t 10) _ _ _ _ refl refl refl
     (more_columns _ _ _ _ _ _
     (a_state_column (t 5) (t 6) (t 7) _ _ _ _ _ _ _ _ refl refl refl (texts (t 8) refl) (just_one (t 9) refl) left_out) no_columns)
-    refl))
+    refl)
 
 declaration_3_is : IsDeclaration (from 11 31) (the 2) (record { depth = 3; nest = 1; blocks = 0 })
 declaration_3_is =
-    (a_column _ _ _
+    a_column _ _ _
     (an_object_column (t 11) (t 12) (t 13) (t 41) _ _ _ _ refl refl refl
     (more_columns _ _ _ _ _ _
     (a_state_column (t 14) (t 15) (t 16) _ _ _ _ _ _ _ _ refl refl refl (numbers (t 17) refl) (just_one (t 18) refl)
@@ -92,11 +92,11 @@ declaration_3_is =
     (products_of_atom
     (a_call (t 37) (t 38) (t 40) _ _ _ refl refl (expression_of_atom (a_leaf (t 39) _ refl)) refl))))))
     no_columns)))
-    refl))
+    refl)
 
 declaration_4_is : IsDeclaration (from 42 38) (the 3) (record { depth = 2; nest = 0; blocks = 3 })
 declaration_4_is =
-    (one_procedure _ _ _
+    one_procedure _ _ _
     (a_procedure (t 42) (t 43) _ _ _ _ _ _ _ _ _ refl refl
     (some_parameters (t 44) (t 52) _ _ refl
     (more_parameters _ _ (t 48) _ _
@@ -131,11 +131,11 @@ declaration_4_is =
     no_statements)
     refl))
     no_statements)
-    refl)))
+    refl))
 
 declaration_5_is : IsDeclaration (from 80 20) (the 4) (record { depth = 2; nest = 0; blocks = 0 })
 declaration_5_is =
-    (one_view _ _ _
+    one_view _ _ _
     (a_view (t 80) (t 81) (t 84) (t 99) _ _ _ _ _ _ _ _ _ refl refl (no_parameters (t 82) (t 83) refl refl) left_out refl
     (one_more _ _ _ _ _ _
     (a_table (t 85) (t 86) (t 87) (t 88) (t 89) (t 91) (t 98) _ _ _ _ _ _ _ _ refl refl refl refl refl
@@ -147,7 +147,7 @@ declaration_5_is =
     none)
     refl)
     none)
-    refl))
+    refl)
 
 pub courses_is_read : IsDefinition courses_text courses
 unfolding is_utf8 chars encode is_reserved

@@ -92,67 +92,65 @@ club =
       declarations =
           declaration.Callers 1 (record { line = 1; names = codes "Member" ∷ [] })
           ∷ declaration.Column (column.Object 2 (codes "Course")
-          ((column.State 3 (codes "title") type.Text true None)
-          ∷ (column.State 4 (codes "capacity") type.Number true None)
-          ∷ (column.Object 5 (codes "Seat")
-          ((column.State 6 (codes "member") (type.Object (record { line = 6; names = codes "Member" ∷ [] })) true None) ∷ []))
-          ∷ (column.Formula 8 (codes "taken") None (tree.Child 8 (tree.Name 8 (codes "Seat")) (codes "member")))
-          ∷ (column.Formula 9 (codes "free") None
-          (tree.Binary 9 operator.Minus (tree.Name 9 (codes "capacity")) (tree.Call 9 function.Count (tree.Name 9 (codes "Seat")))))
+          (column.State 3 (codes "title") type.Text true None
+          ∷ column.State 4 (codes "capacity") type.Number true None
+          ∷ column.Object 5 (codes "Seat")
+          (column.State 6 (codes "member") (type.Object (record { line = 6; names = codes "Member" ∷ [] })) true None ∷ [])
+          ∷ column.Formula 8 (codes "taken") None (tree.Child 8 (tree.Name 8 (codes "Seat")) (codes "member"))
+          ∷ column.Formula 9 (codes "free") None
+          (tree.Binary 9 operator.Minus (tree.Name 9 (codes "capacity")) (tree.Call 9 function.Count (tree.Name 9 (codes "Seat"))))
           ∷ []))
           ∷ declaration.Column (column.Object 11 (codes "Member")
-          ((column.State 12 (codes "name") type.Text true None)
-          ∷ (column.Formula 13 (codes "courses") None
+          (column.State 12 (codes "name") type.Text true None
+          ∷ column.Formula 13 (codes "courses") None
           (tree.GatherWhere 13 gathering.Union (tree.Name 13 (codes "c")) (codes "c") (tree.Name 13 (codes "Course"))
-          (tree.Binary 13 operator.In (tree.This 13) (tree.Child 13 (tree.Name 13 (codes "c")) (codes "taken")))))
+          (tree.Binary 13 operator.In (tree.This 13) (tree.Child 13 (tree.Name 13 (codes "c")) (codes "taken"))))
           ∷ []))
           ∷ declaration.Procedure (record {
             line = 15;
             name = codes "add_course";
-            parameters = (record { line = 15; name = codes "title"; values = type.Text }
+            parameters = record { line = 15; name = codes "title"; values = type.Text }
                 ∷ record { line = 15; name = codes "capacity"; values = type.Number }
-                ∷ []);
-            allow = (Some (tree.Operator 15));
-            body = (statement.Check 16
-                (tree.Binary 16 operator.AtLeast (tree.Name 16 (codes "capacity")) (tree.Number 16 (pos 0)))
-                (codes "capacity is below zero")
+                ∷ [];
+            allow = Some (tree.Operator 15);
+            body = statement.Check 16
+                (tree.Binary 16 operator.AtLeast (tree.Name 16 (codes "capacity")) (tree.Number 16 (pos 0))) (codes "capacity is below zero")
                 ∷ statement.New 17 (codes "c") (record { line = 17; object = None; column = codes "Course" })
                 ∷ statement.Set 18
                 (record { line = 18; object = Some (tree.Name 18 (codes "c")); column = codes "title" }) (tree.Name 18 (codes "title"))
                 ∷ statement.Set 19
-                (record { line = 19; object = Some (tree.Name 19 (codes "c")); column = codes "capacity" })
-                (tree.Name 19 (codes "capacity"))
+                (record { line = 19; object = Some (tree.Name 19 (codes "c")); column = codes "capacity" }) (tree.Name 19 (codes "capacity"))
                 ∷ statement.Reply 20 (tree.Name 20 (codes "c"))
-                ∷ []);
+                ∷ [];
           })
           ∷ declaration.Procedure (record {
             line = 22;
             name = codes "add_member";
-            parameters = (record { line = 22; name = codes "name"; values = type.Text } ∷ []);
-            allow = (Some (tree.Operator 22));
-            body = (statement.New 23 (codes "m") (record { line = 23; object = None; column = codes "Member" })
+            parameters = record { line = 22; name = codes "name"; values = type.Text } ∷ [];
+            allow = Some (tree.Operator 22);
+            body = statement.New 23 (codes "m") (record { line = 23; object = None; column = codes "Member" })
                 ∷ statement.Set 24
                 (record { line = 24; object = Some (tree.Name 24 (codes "m")); column = codes "name" }) (tree.Name 24 (codes "name"))
                 ∷ statement.Reply 25 (tree.Name 25 (codes "m"))
-                ∷ []);
+                ∷ [];
           })
           ∷ declaration.Procedure (record {
             line = 27;
             name = codes "set_name";
-            parameters = (record { line = 27; name = codes "m"; values = (type.Object (record { line = 27; names = codes "Member" ∷ [] })) }
+            parameters = record { line = 27; name = codes "m"; values = type.Object (record { line = 27; names = codes "Member" ∷ [] }) }
                 ∷ record { line = 27; name = codes "name"; values = type.Text }
-                ∷ []);
-            allow = (Some (tree.Operator 27));
-            body = (statement.Set 28
+                ∷ [];
+            allow = Some (tree.Operator 27);
+            body = statement.Set 28
                 (record { line = 28; object = Some (tree.Name 28 (codes "m")); column = codes "name" }) (tree.Name 28 (codes "name"))
-                ∷ []);
+                ∷ [];
           })
           ∷ declaration.Procedure (record {
             line = 30;
             name = codes "join";
-            parameters = (record { line = 30; name = codes "c"; values = (type.Object (record { line = 30; names = codes "Course" ∷ [] })) } ∷ []);
+            parameters = record { line = 30; name = codes "c"; values = type.Object (record { line = 30; names = codes "Course" ∷ [] }) } ∷ [];
             allow = None;
-            body = (statement.Check 31
+            body = statement.Check 31
                 (tree.Binary 31 operator.Equals (tree.Call 31 function.Count (tree.Caller 31)) (tree.Number 31 (pos 1))) (codes "no member")
                 ∷ statement.Check 32
                 (tree.Not 32 (tree.Binary 32 operator.In (tree.Caller 32) (tree.Child 32 (tree.Name 32 (codes "c")) (codes "taken"))))
@@ -163,16 +161,16 @@ club =
                 ∷ statement.New 34 (codes "s") (record { line = 34; object = Some (tree.Name 34 (codes "c")); column = codes "Seat" })
                 ∷ statement.Set 35 (record { line = 35; object = Some (tree.Name 35 (codes "s")); column = codes "member" }) (tree.Caller 35)
                 ∷ statement.Reply 36 (tree.Name 36 (codes "s"))
-                ∷ []);
+                ∷ [];
           })
           ∷ declaration.Procedure (record {
             line = 38;
             name = codes "enrol";
-            parameters = (record { line = 38; name = codes "c"; values = (type.Object (record { line = 38; names = codes "Course" ∷ [] })) }
-                ∷ record { line = 38; name = codes "m"; values = (type.Object (record { line = 38; names = codes "Member" ∷ [] })) }
-                ∷ []);
-            allow = (Some (tree.Operator 38));
-            body = (statement.Check 39
+            parameters = record { line = 38; name = codes "c"; values = type.Object (record { line = 38; names = codes "Course" ∷ [] }) }
+                ∷ record { line = 38; name = codes "m"; values = type.Object (record { line = 38; names = codes "Member" ∷ [] }) }
+                ∷ [];
+            allow = Some (tree.Operator 38);
+            body = statement.Check 39
                 (tree.Not 39
                 (tree.Binary 39 operator.In (tree.Name 39 (codes "m")) (tree.Child 39 (tree.Name 39 (codes "c")) (codes "taken"))))
                 (codes "already joined")
@@ -183,63 +181,63 @@ club =
                 ∷ statement.Set 42
                 (record { line = 42; object = Some (tree.Name 42 (codes "s")); column = codes "member" }) (tree.Name 42 (codes "m"))
                 ∷ statement.Reply 43 (tree.Name 43 (codes "s"))
-                ∷ []);
+                ∷ [];
           })
           ∷ declaration.Procedure (record {
             line = 45;
             name = codes "leave";
-            parameters = (record { line = 45; name = codes "c"; values = (type.Object (record { line = 45; names = codes "Course" ∷ [] })) } ∷ []);
+            parameters = record { line = 45; name = codes "c"; values = type.Object (record { line = 45; names = codes "Course" ∷ [] }) } ∷ [];
             allow = None;
-            body = (statement.Delete 46
+            body = statement.Delete 46
                 (tree.GatherWhere 46 gathering.Union (tree.Name 46 (codes "s")) (codes "s")
                 (tree.Child 46 (tree.Name 46 (codes "c")) (codes "Seat"))
                 (tree.Binary 46 operator.Equals (tree.Child 46 (tree.Name 46 (codes "s")) (codes "member")) (tree.Caller 46)))
-                ∷ []);
+                ∷ [];
           })
           ∷ declaration.Procedure (record {
             line = 48;
             name = codes "drop_member";
-            parameters = (record { line = 48; name = codes "m"; values = (type.Object (record { line = 48; names = codes "Member" ∷ [] })) } ∷ []);
-            allow = (Some (tree.Operator 48));
-            body = (statement.Delete 49 (tree.Name 49 (codes "m")) ∷ []);
+            parameters = record { line = 48; name = codes "m"; values = type.Object (record { line = 48; names = codes "Member" ∷ [] }) } ∷ [];
+            allow = Some (tree.Operator 48);
+            body = statement.Delete 49 (tree.Name 49 (codes "m")) ∷ [];
           })
           ∷ declaration.Procedure (record {
             line = 51;
             name = codes "wipe";
-            parameters = (record { line = 51; name = codes "c"; values = (type.Object (record { line = 51; names = codes "Course" ∷ [] })) } ∷ []);
-            allow = (Some (tree.Operator 51));
-            body = (statement.For 52 (codes "s") (tree.Child 52 (tree.Name 52 (codes "c")) (codes "Seat"))
+            parameters = record { line = 51; name = codes "c"; values = type.Object (record { line = 51; names = codes "Course" ∷ [] }) } ∷ [];
+            allow = Some (tree.Operator 51);
+            body = statement.For 52 (codes "s") (tree.Child 52 (tree.Name 52 (codes "c")) (codes "Seat"))
                 (statement.Delete 53 (tree.Name 53 (codes "c")) ∷ [])
                 ∷ statement.Check 55 (tree.Truth 55 false) (codes "kept")
-                ∷ []);
+                ∷ [];
           })
           ∷ declaration.View (record {
             line = 57;
             name = codes "mine";
             parameters = [];
             allow = None;
-            parts = (part.Show (record { line = 58; name = codes "name"; shown = (tree.Child 58 (tree.Caller 58) (codes "name")) })
+            parts = part.Show (record { line = 58; name = codes "name"; shown = tree.Child 58 (tree.Caller 58) (codes "name") })
                 ∷ part.Table 59 (codes "courses") (codes "c") (tree.Child 59 (tree.Caller 59) (codes "courses"))
-                ((record { line = 60; name = codes "title"; shown = (tree.Child 60 (tree.Name 60 (codes "c")) (codes "title")) })
-                ∷ (record { line = 61; name = codes "free"; shown = (tree.Child 61 (tree.Name 61 (codes "c")) (codes "free")) })
+                (record { line = 60; name = codes "title"; shown = tree.Child 60 (tree.Name 60 (codes "c")) (codes "title") }
+                ∷ record { line = 61; name = codes "free"; shown = tree.Child 61 (tree.Name 61 (codes "c")) (codes "free") }
                 ∷ [])
-                ∷ []);
+                ∷ [];
           })
           ∷ declaration.View (record {
             line = 64;
             name = codes "overview";
             parameters = [];
-            allow = (Some (tree.Operator 64));
-            parts = (part.Table 65 (codes "courses") (codes "c") (tree.Name 65 (codes "Course"))
-                ((record { line = 66; name = codes "title"; shown = (tree.Child 66 (tree.Name 66 (codes "c")) (codes "title")) })
-                ∷ (record { line = 67; name = codes "free"; shown = (tree.Child 67 (tree.Name 67 (codes "c")) (codes "free")) })
+            allow = Some (tree.Operator 64);
+            parts = part.Table 65 (codes "courses") (codes "c") (tree.Name 65 (codes "Course"))
+                (record { line = 66; name = codes "title"; shown = tree.Child 66 (tree.Name 66 (codes "c")) (codes "title") }
+                ∷ record { line = 67; name = codes "free"; shown = tree.Child 67 (tree.Name 67 (codes "c")) (codes "free") }
                 ∷ [])
                 ∷ part.Show (record {
                   line = 69;
                   name = codes "seats";
-                  shown = (tree.Call 69 function.Count (tree.Child 69 (tree.Name 69 (codes "Course")) (codes "Seat")));
+                  shown = tree.Call 69 function.Count (tree.Child 69 (tree.Name 69 (codes "Course")) (codes "Seat"));
                 })
-                ∷ []);
+                ∷ [];
           })
           ∷ [];
     }

@@ -48,37 +48,37 @@ courses =
     record {
       declarations =
           declaration.Callers 1 (record { line = 1; names = codes "Member" ∷ [] })
-          ∷ declaration.Column (column.Object 2 (codes "Member") ((column.State 3 (codes "name") type.Text true None) ∷ []))
+          ∷ declaration.Column (column.Object 2 (codes "Member") (column.State 3 (codes "name") type.Text true None ∷ []))
           ∷ declaration.Column (column.Object 5 (codes "Course")
-          ((column.State 6 (codes "capacity") type.Number true (Some (literal.Number 6 (pos 8))))
-          ∷ (column.Object 7 (codes "Seat")
-          ((column.State 8 (codes "member") (type.Object (record { line = 8; names = codes "Member" ∷ [] })) true None) ∷ []))
-          ∷ (column.Formula 10 (codes "free") (Some type.Number)
-          (tree.Binary 10 operator.Minus (tree.Name 10 (codes "capacity")) (tree.Call 10 function.Count (tree.Name 10 (codes "Seat")))))
+          (column.State 6 (codes "capacity") type.Number true (Some (literal.Number 6 (pos 8)))
+          ∷ column.Object 7 (codes "Seat")
+          (column.State 8 (codes "member") (type.Object (record { line = 8; names = codes "Member" ∷ [] })) true None ∷ [])
+          ∷ column.Formula 10 (codes "free") (Some type.Number)
+          (tree.Binary 10 operator.Minus (tree.Name 10 (codes "capacity")) (tree.Call 10 function.Count (tree.Name 10 (codes "Seat"))))
           ∷ []))
           ∷ declaration.Procedure (record {
             line = 12;
             name = codes "leave";
-            parameters = (record { line = 12; name = codes "c"; values = (type.Object (record { line = 12; names = codes "Course" ∷ [] })) }
+            parameters = record { line = 12; name = codes "c"; values = type.Object (record { line = 12; names = codes "Course" ∷ [] }) }
                 ∷ record { line = 12; name = codes "last"; values = type.Truth }
-                ∷ []);
-            allow = (Some (tree.Operator 12));
-            body = (statement.IfElse 13 (tree.Name 13 (codes "last")) (statement.Delete 14 (tree.Name 14 (codes "c")) ∷ [])
+                ∷ [];
+            allow = Some (tree.Operator 12);
+            body = statement.IfElse 13 (tree.Name 13 (codes "last")) (statement.Delete 14 (tree.Name 14 (codes "c")) ∷ [])
                 (statement.For 16 (codes "s") (tree.Child 16 (tree.Name 16 (codes "c")) (codes "Seat"))
                 (statement.Set 17
                 (record { line = 17; object = Some (tree.Name 17 (codes "s")); column = codes "member" }) (tree.Caller 17)
                 ∷ [])
                 ∷ [])
-                ∷ []);
+                ∷ [];
           })
           ∷ declaration.View (record {
             line = 21;
             name = codes "open";
             parameters = [];
             allow = None;
-            parts = (part.Table 22 (codes "courses") (codes "c") (tree.Name 22 (codes "Course"))
-                ((record { line = 23; name = codes "free"; shown = (tree.Child 23 (tree.Name 23 (codes "c")) (codes "free")) }) ∷ [])
-                ∷ []);
+            parts = part.Table 22 (codes "courses") (codes "c") (tree.Name 22 (codes "Course"))
+                (record { line = 23; name = codes "free"; shown = tree.Child 23 (tree.Name 23 (codes "c")) (codes "free") } ∷ [])
+                ∷ [];
           })
           ∷ [];
     }
@@ -90,6 +90,7 @@ workshop_text =
     ++ codes "state title : text one = \"say \\\"go\\\"\"\n"
     ++ codes "object Order {\n"
     ++ codes "  state notes : text\n"
+    ++ codes "  state paid : truth one = false\n"
     ++ codes "  object Line {\n"
     ++ codes "    state parts : Order.Line\n"
     ++ codes "  }\n"
@@ -120,54 +121,52 @@ workshop =
           ∷ declaration.Column (column.State 2 (codes "least") type.Number false (Some (literal.Negative 2 (pos 3))))
           ∷ declaration.Column (column.State 3 (codes "title") type.Text true (Some (literal.Text 3 (codes "say \"go\""))))
           ∷ declaration.Column (column.Object 4 (codes "Order")
-          ((column.State 5 (codes "notes") type.Text false None)
-          ∷ (column.Object 6 (codes "Line")
-          ((column.State 7 (codes "parts") (type.Object (record { line = 7; names = codes "Order" ∷ codes "Line" ∷ [] })) false None)
-          ∷ []))
+          (column.State 5 (codes "notes") type.Text false None
+          ∷ column.State 6 (codes "paid") type.Truth true (Some (literal.Truth 6 false))
+          ∷ column.Object 7 (codes "Line")
+          (column.State 8 (codes "parts") (type.Object (record { line = 8; names = codes "Order" ∷ codes "Line" ∷ [] })) false None ∷ [])
           ∷ []))
           ∷ declaration.Procedure (record {
-            line = 10;
+            line = 11;
             name = codes "move";
-            parameters = (record { line = 10; name = codes "l"; values = (type.Object (record { line = 10; names = codes "Order" ∷ codes "Line" ∷ [] })) }
-                ∷ []);
+            parameters = record { line = 11; name = codes "l"; values = type.Object (record { line = 11; names = codes "Order" ∷ codes "Line" ∷ [] }) } ∷ [];
             allow = None;
-            body = (statement.Let 11 (codes "parts") (tree.Child 11 (tree.Name 11 (codes "l")) (codes "parts"))
-                ∷ statement.Check 12
-                (tree.Binary 12 operator.Greater (tree.Call 12 function.Count (tree.Name 12 (codes "parts"))) (tree.Name 12 (codes "least")))
+            body = statement.Let 12 (codes "parts") (tree.Child 12 (tree.Name 12 (codes "l")) (codes "parts"))
+                ∷ statement.Check 13
+                (tree.Binary 13 operator.Greater (tree.Call 13 function.Count (tree.Name 13 (codes "parts"))) (tree.Name 13 (codes "least")))
                 (codes "too few parts")
-                ∷ statement.New 13 (codes "n") (record { line = 13; object = None; column = codes "Order" })
-                ∷ statement.Add 14 (tree.Name 14 (codes "title"))
-                (record { line = 14; object = Some (tree.Up 14 (tree.Name 14 (codes "l"))); column = codes "notes" })
-                ∷ statement.Remove 15 (tree.Set 15 []) (record { line = 15; object = Some (tree.Name 15 (codes "l")); column = codes "parts" })
-                ∷ statement.If 16 (tree.Name 16 (codes "open"))
-                (statement.Set 17 (record { line = 17; object = None; column = codes "open" }) (tree.Not 17 (tree.Name 17 (codes "open")))
+                ∷ statement.New 14 (codes "n") (record { line = 14; object = None; column = codes "Order" })
+                ∷ statement.Add 15 (tree.Name 15 (codes "title"))
+                (record { line = 15; object = Some (tree.Up 15 (tree.Name 15 (codes "l"))); column = codes "notes" })
+                ∷ statement.Remove 16 (tree.Set 16 []) (record { line = 16; object = Some (tree.Name 16 (codes "l")); column = codes "parts" })
+                ∷ statement.If 17 (tree.Name 17 (codes "open"))
+                (statement.Set 18 (record { line = 18; object = None; column = codes "open" }) (tree.Not 18 (tree.Name 18 (codes "open")))
                 ∷ [])
-                ∷ statement.Reply 19 (tree.Name 19 (codes "n"))
-                ∷ []);
+                ∷ statement.Reply 20 (tree.Name 20 (codes "n"))
+                ∷ [];
           })
-          ∷ declaration.Procedure (record { line = 21; name = codes "clear"; parameters = []; allow = None; body = ([]) })
+          ∷ declaration.Procedure (record { line = 22; name = codes "clear"; parameters = []; allow = None; body = [] })
           ∷ declaration.View (record {
-            line = 23;
+            line = 24;
             name = codes "lines";
-            parameters = (record { line = 23; name = codes "l"; values = (type.Object (record { line = 23; names = codes "Order" ∷ codes "Line" ∷ [] })) }
-                ∷ []);
-            allow = (Some (tree.Operator 23));
-            parts = (part.Show (record {
-              line = 24;
+            parameters = record { line = 24; name = codes "l"; values = type.Object (record { line = 24; names = codes "Order" ∷ codes "Line" ∷ [] }) } ∷ [];
+            allow = Some (tree.Operator 24);
+            parts = part.Show (record {
+              line = 25;
               name = codes "parts";
-              shown = (tree.GatherWhere 24 gathering.Union (tree.Name 24 (codes "p")) (codes "p")
-                  (tree.Child 24 (tree.Name 24 (codes "l")) (codes "parts"))
-                  (tree.Test 24 quantifier.Any (codes "q") (tree.Child 24 (tree.Name 24 (codes "p")) (codes "parts"))
-                  (tree.Binary 24 operator.Equals (tree.Name 24 (codes "q")) (tree.Name 24 (codes "l")))));
+              shown = tree.GatherWhere 25 gathering.Union (tree.Name 25 (codes "p")) (codes "p")
+                  (tree.Child 25 (tree.Name 25 (codes "l")) (codes "parts"))
+                  (tree.Test 25 quantifier.Any (codes "q") (tree.Child 25 (tree.Name 25 (codes "p")) (codes "parts"))
+                  (tree.Binary 25 operator.Equals (tree.Name 25 (codes "q")) (tree.Name 25 (codes "l"))));
             })
                 ∷ part.Show (record {
-                  line = 25;
+                  line = 26;
                   name = codes "orders";
-                  shown = (tree.Binary 25 operator.Plus
-                      (tree.Gather 25 gathering.Sum (tree.Number 25 (pos 1)) (codes "o") (tree.Name 25 (codes "Order")))
-                      (tree.Negate 25 (tree.Name 25 (codes "least"))));
+                  shown = tree.Binary 26 operator.Plus
+                      (tree.Gather 26 gathering.Sum (tree.Number 26 (pos 1)) (codes "o") (tree.Name 26 (codes "Order")))
+                      (tree.Negate 26 (tree.Name 26 (codes "least")));
                 })
-                ∷ []);
+                ∷ [];
           })
           ∷ [];
     }
