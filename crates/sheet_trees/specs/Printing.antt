@@ -60,10 +60,18 @@ in_parentheses text = codes "(" ++ text ++ codes ")"
 abbrev pub in_braces : List ℕ → List ℕ
 in_braces text = codes "{" ++ text ++ codes "}"
 
--- what stands inside the brackets of a comprehension or a sum, in those brackets
-abbrev pub gathered_text : Gathering → List ℕ → List ℕ
-gathered_text gathering.Union text = in_braces text
-gathered_text gathering.Sum text = codes "sum" ++ in_parentheses text
+-- the brackets of a comprehension and of a sum
+abbrev pub opening_text : Gathering → List ℕ
+opening_text gathering.Union = codes "{"
+opening_text gathering.Sum = codes "sum("
+
+abbrev pub closing_text : Gathering → List ℕ
+closing_text gathering.Union = codes "}"
+closing_text gathering.Sum = codes ")"
+
+-- a formula, its variable and the set that the variable goes through
+abbrev pub bound_text : List ℕ → List ℕ → List ℕ → List ℕ
+bound_text body name source = body ++ codes " : " ++ name ++ codes " in " ++ source
 
 -- whether a formula stands in parentheses as an operand: an if, a not, a unary - and a form with an operator of two operands do
 abbrev pub is_enclosed : Tree → Bool
@@ -100,10 +108,9 @@ abbrev mutual
       codes "if " ++ formula_text c ++ codes " then " ++ formula_text a ++ codes " else " ++ formula_text b
   formula_text (Set' _ _ parts) = in_braces (join_by (λ part. part) (codes ", ") (formula_texts parts))
   formula_text (Call' _ f _ (more e end)) = function_text f ++ in_parentheses (formula_text e)
-  formula_text (Gather' _ g _ (more f end) x _ (more s end)) =
-      gathered_text g (formula_text f ++ codes " : " ++ x ++ codes " in " ++ formula_text s)
+  formula_text (Gather' _ g _ (more f end) x _ (more s end)) = opening_text g ++ bound_text (formula_text f) x (formula_text s) ++ closing_text g
   formula_text (GatherWhere' _ g _ (more f end) x _ (more s end) _ (more p end)) =
-      gathered_text g (formula_text f ++ codes " : " ++ x ++ codes " in " ++ formula_text s ++ codes " | " ++ formula_text p)
+      opening_text g ++ bound_text (formula_text f) x (formula_text s) ++ codes " | " ++ formula_text p ++ closing_text g
   formula_text (Test' _ q x _ (more s end) _ (more p end)) =
       quantifier_text q ++ in_parentheses (x ++ codes " in " ++ formula_text s ++ codes " | " ++ formula_text p)
 

@@ -1,0 +1,8 @@
+//! The texts that formulas are printed as.
+#![tactic(auto)]
+
+mod formula;
+mod words;
+
+pub use formula::{append_formula, print_formula};
+pub use words::{append, append_number, append_quoted};
