@@ -1,5 +1,5 @@
 -- The text that a definition is printed as.
-use Rattle.std.specs.Prelude.{ℕ, zero, suc, List, [], ◌∷◌, ◌++◌, length, flat_map, Bool, true, false, Option, Some, None, codes}
+use Rattle.std.specs.Prelude.{ℕ, List, [], ◌∷◌, ◌++◌, length, flat_map, Bool, true, false, Option, Some, None, codes}
 use Rattle.std.specs.Fmt.{signed_decimal}
 use Rattle.std.specs.List.{join_by}
 use Rattle.sheet_trees.specs.declared.tree.Tree.{Tree}
@@ -22,18 +22,17 @@ use Rattle.sheet_definitions.specs.declared.definition.Definition.{Definition}
 use Rattle.sheet_definitions.specs.declared.statement.Target.{Target}
 use Rattle.sheet_definitions.specs.declared.statement.Statement.{Statement, Let, Set, Add, Remove, New, Delete, Check, Reply, If', IfElse', For', Row_of-Statement, end_of-Statement as no_statement, more_of-Statement as more_statements}
 
--- two spaces for each brace that is open
-abbrev pub indent : ℕ → List ℕ
-indent zero = []
-indent (suc braces) = codes "  " ++ indent braces
+-- a line of its own, behind a margin
+abbrev pub line_at : List ℕ → List ℕ → List ℕ
+line_at margin text = margin ++ text ++ codes "\n"
 
--- a line of its own, inside so many braces
-abbrev pub line_at : ℕ → List ℕ → List ℕ
-line_at braces text = indent braces ++ text ++ codes "\n"
+-- the margin inside one more brace
+abbrev pub inside : List ℕ → List ℕ
+inside margin = margin ++ codes "  "
 
 -- a line that opens a brace, the lines inside it, and the line that closes it
-abbrev pub braced : ℕ → List ℕ → List ℕ → List ℕ
-braced braces opening inside = line_at braces (opening ++ codes " {") ++ inside ++ line_at braces (codes "}")
+abbrev pub braced : List ℕ → List ℕ → List ℕ → List ℕ
+braced margin opening lines = line_at margin (opening ++ codes " {") ++ lines ++ line_at margin (codes "}")
 
 -- names with dots between them
 abbrev pub path_text : Path → List ℕ
@@ -64,15 +63,15 @@ declared_text (Some t) = codes " : " ++ type_text t
 declared_text None = []
 
 abbrev mutual
-  -- a column, inside so many braces
-  pub column_text : Column → ℕ → List ℕ
-  column_text (Object' line name _ columns) braces = braced braces (codes "object " ++ name) (columns_text columns (suc braces))
-  column_text (State line name t one first) braces = line_at braces (codes "state " ++ name ++ codes " : " ++ type_text t ++ one_text one ++ first_text first)
-  column_text (Formula line name t f) braces = line_at braces (codes "formula " ++ name ++ declared_text t ++ codes " = " ++ formula_text f)
+  -- a column, behind a margin
+  pub column_text : Column → List ℕ → List ℕ
+  column_text (Object' line name _ columns) margin = braced margin (codes "object " ++ name) (columns_text columns (inside margin))
+  column_text (State line name t one first) margin = line_at margin (codes "state " ++ name ++ codes " : " ++ type_text t ++ one_text one ++ first_text first)
+  column_text (Formula line name t f) margin = line_at margin (codes "formula " ++ name ++ declared_text t ++ codes " = " ++ formula_text f)
 
-  pub columns_text : {m : _} → Row_of-Column m → ℕ → List ℕ
-  columns_text no_column braces = []
-  columns_text (more_columns c rest) braces = column_text c braces ++ columns_text rest braces
+  pub columns_text : {m : _} → Row_of-Column m → List ℕ → List ℕ
+  columns_text no_column margin = []
+  columns_text (more_columns c rest) margin = column_text c margin ++ columns_text rest margin
 
 abbrev pub parameter_text : Parameter → List ℕ
 parameter_text p = p.name ++ codes " : " ++ type_text p.values
@@ -93,45 +92,48 @@ abbrev pub target_text : Target → List ℕ
 target_text t = object_text t.object ++ t.column
 
 abbrev mutual
-  -- a statement, inside so many braces
-  pub statement_text : Statement → ℕ → List ℕ
-  statement_text (Let line name e) braces = line_at braces (codes "let " ++ name ++ codes " = " ++ formula_text e)
-  statement_text (Set line t e) braces = line_at braces (codes "set " ++ target_text t ++ codes " = " ++ formula_text e)
-  statement_text (Add line e t) braces = line_at braces (codes "add " ++ formula_text e ++ codes " to " ++ target_text t)
-  statement_text (Remove line e t) braces = line_at braces (codes "remove " ++ formula_text e ++ codes " from " ++ target_text t)
-  statement_text (New line name t) braces = line_at braces (codes "new " ++ name ++ codes " = " ++ target_text t)
-  statement_text (Delete line e) braces = line_at braces (codes "delete " ++ formula_text e)
-  statement_text (Check line e message) braces = line_at braces (codes "check " ++ formula_text e ++ codes " else " ++ quoted message)
-  statement_text (Reply line e) braces = line_at braces (codes "reply " ++ formula_text e)
-  statement_text (If' line e _ body) braces = braced braces (codes "if " ++ formula_text e) (statements_text body (suc braces))
-  statement_text (IfElse' line e _ body _ otherwise) braces =
-      line_at braces (codes "if " ++ formula_text e ++ codes " {") ++ statements_text body (suc braces)
-      ++ braced braces (codes "} else") (statements_text otherwise (suc braces))
-  statement_text (For' line name e _ body) braces =
-      braced braces (codes "for " ++ name ++ codes " in " ++ formula_text e) (statements_text body (suc braces))
+  -- a statement, behind a margin
+  pub statement_text : Statement → List ℕ → List ℕ
+  statement_text (Let line name e) margin = line_at margin (codes "let " ++ name ++ codes " = " ++ formula_text e)
+  statement_text (Set line t e) margin = line_at margin (codes "set " ++ target_text t ++ codes " = " ++ formula_text e)
+  statement_text (Add line e t) margin = line_at margin (codes "add " ++ formula_text e ++ codes " to " ++ target_text t)
+  statement_text (Remove line e t) margin = line_at margin (codes "remove " ++ formula_text e ++ codes " from " ++ target_text t)
+  statement_text (New line name t) margin = line_at margin (codes "new " ++ name ++ codes " = " ++ target_text t)
+  statement_text (Delete line e) margin = line_at margin (codes "delete " ++ formula_text e)
+  statement_text (Check line e message) margin = line_at margin (codes "check " ++ formula_text e ++ codes " else " ++ quoted message)
+  statement_text (Reply line e) margin = line_at margin (codes "reply " ++ formula_text e)
+  statement_text (If' line e _ body) margin = braced margin (codes "if " ++ formula_text e) (statements_text body (inside margin))
+  statement_text (IfElse' line e _ body _ otherwise) margin =
+      line_at margin (codes "if " ++ formula_text e ++ codes " {") ++ statements_text body (inside margin)
+      ++ braced margin (codes "} else") (statements_text otherwise (inside margin))
+  statement_text (For' line name e _ body) margin =
+      braced margin (codes "for " ++ name ++ codes " in " ++ formula_text e) (statements_text body (inside margin))
 
-  pub statements_text : {m : _} → Row_of-Statement m → ℕ → List ℕ
-  statements_text no_statement braces = []
-  statements_text (more_statements x rest) braces = statement_text x braces ++ statements_text rest braces
+  pub statements_text : {m : _} → Row_of-Statement m → List ℕ → List ℕ
+  statements_text no_statement margin = []
+  statements_text (more_statements x rest) margin = statement_text x margin ++ statements_text rest margin
+
+-- what stands before the brace of a procedure or a view
+abbrev pub header_text : List ℕ → List Parameter → Option Tree → List ℕ
+header_text name parameters allow = name ++ parameters_text parameters ++ allow_text allow
 
 abbrev pub procedure_text : Procedure → List ℕ
-procedure_text p =
-    braced 0 (codes "procedure " ++ p.name ++ parameters_text p.parameters ++ allow_text p.allow) (flat_map (λ x. statement_text x 1) p.body)
+procedure_text p = braced [] (codes "procedure " ++ header_text p.name p.parameters p.allow) (flat_map (λ x. statement_text x (inside [])) p.body)
 
-abbrev pub show_text : ℕ → Show → List ℕ
-show_text braces s = line_at braces (codes "show " ++ s.name ++ codes " = " ++ formula_text s.shown)
+abbrev pub show_text : List ℕ → Show → List ℕ
+show_text margin s = line_at margin (codes "show " ++ s.name ++ codes " = " ++ formula_text s.shown)
 
-abbrev pub part_text : Part → List ℕ
-part_text (part.Show s) = show_text 1 s
-part_text (part.Table line name variable source shows) =
-    braced 1 (codes "table " ++ name ++ codes " = " ++ variable ++ codes " in " ++ formula_text source) (flat_map (show_text 2) shows)
+abbrev pub part_text : List ℕ → Part → List ℕ
+part_text margin (part.Show s) = show_text margin s
+part_text margin (part.Table line name variable source shows) =
+    braced margin (codes "table " ++ name ++ codes " = " ++ variable ++ codes " in " ++ formula_text source) (flat_map (show_text (inside margin)) shows)
 
 abbrev pub view_text : View → List ℕ
-view_text v = braced 0 (codes "view " ++ v.name ++ parameters_text v.parameters ++ allow_text v.allow) (flat_map part_text v.parts)
+view_text v = braced [] (codes "view " ++ header_text v.name v.parameters v.allow) (flat_map (part_text (inside [])) v.parts)
 
 abbrev pub declaration_text : Declaration → List ℕ
-declaration_text (declaration.Callers line path) = line_at 0 (codes "callers " ++ path_text path)
-declaration_text (declaration.Column c) = column_text c 0
+declaration_text (declaration.Callers line path) = line_at [] (codes "callers " ++ path_text path)
+declaration_text (declaration.Column c) = column_text c []
 declaration_text (declaration.Procedure p) = procedure_text p
 declaration_text (declaration.View v) = view_text v
 
