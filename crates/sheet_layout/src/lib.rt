@@ -1,5 +1,6 @@
 //! The text that a definition is printed as.
 #![tactic(auto)]
 
+mod column;
 mod head;
 mod line;
