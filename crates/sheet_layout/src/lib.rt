@@ -4,3 +4,4 @@
 mod column;
 mod head;
 mod line;
+mod statement;

@@ -75,9 +75,9 @@ pub fn append_formula(out: &mut Vec<u8>, tree: &Tree) -> Result<(), NoMemory>
     }
 }
 
-// An operand, in parentheses where it needs them.
+/// Adds the text of an operand at the end, in parentheses where it needs them.
 #[cycle(formulas)]
-fn append_operand(out: &mut Vec<u8>, part: &Tree) -> Result<(), NoMemory>
+pub fn append_operand(out: &mut Vec<u8>, part: &Tree) -> Result<(), NoMemory>
     ensures { OnOk result (out.new.items ≡ out.old.items ++ operand part.now (formula_text part.now)) }
 {
     if !is_enclosed(part) {

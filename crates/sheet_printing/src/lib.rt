@@ -4,5 +4,5 @@
 mod formula;
 mod words;
 
-pub use formula::{append_formula, print_formula};
+pub use formula::{append_formula, append_operand, print_formula};
 pub use words::{append, append_number, append_quoted};
