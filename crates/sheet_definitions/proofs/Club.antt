@@ -1,5 +1,5 @@
 -- The club, derived from its tokens.
-use Rattle.std.proofs.Common.{◌≡◌, refl, arith, ℕ, List, [], ◌∷◌, take, drop}
+use Rattle.std.proofs.Common.{refl, arith, ℕ, List, [], ◌∷◌, take, drop}
 use Rattle.std.specs.Prelude.{slice_index_or}
 use lib.Utf8.{encode}
 use Rattle.std.specs.Str.{is_utf8, chars}
@@ -13,7 +13,7 @@ use Rattle.sheet_definitions.specs.declared.definition.Declaration.TheVariants a
 use Rattle.sheet_trees.specs.Grammar.{an_operation, a_prefix, a_child, a_leaf, a_comprehension, a_call, chosen_values}
 use Rattle.sheet_definitions.specs.declared.definition.Declaration.{Declaration}
 use Rattle.sheet_definitions.specs.Grammar.{IsDeclaration, left_out, stated, none, one_more, a_formula, one_name, a_path, numbers, texts, objects, just_one, an_allow, an_object_column, a_state_column, a_formula_column, no_columns, more_columns, a_parameter, one_parameter, more_parameters, no_parameters, some_parameters, of_root, of_object, an_assignment, a_new, a_delete, a_check, a_reply, a_for, no_statements, more_statements, a_block, a_procedure, a_show, one_show, a_table, a_view, the_callers, a_column, one_procedure, one_view}
-use Rattle.sheet_definitions.specs.Club.{club, club_text, ClubIsRead}
+use Rattle.sheet_definitions.specs.Club.{club, ClubIsRead}
 use Rattle.sheet_definitions.proofs.Tokens.{word, name, symbol, number, text}
 use Rattle.sheet_definitions.proofs.Lifting.{expression_of_atom, expression_of_comparison, expression_of_negation, expression_of_postfix, expression_of_sums, negation_of_comparison, postfix_of_atom, products_of_atom, sets_of_atom, sets_of_postfix, sums_of_atom}
 

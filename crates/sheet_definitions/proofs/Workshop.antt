@@ -1,5 +1,5 @@
 -- The workshop, derived from its tokens.
-use Rattle.std.proofs.Common.{◌≡◌, refl, arith, ℕ, List, [], ◌∷◌, take, drop}
+use Rattle.std.proofs.Common.{refl, arith, ℕ, List, [], ◌∷◌, take, drop}
 use Rattle.std.specs.Prelude.{slice_index_or}
 use lib.Utf8.{encode}
 use Rattle.std.specs.Str.{is_utf8, chars}

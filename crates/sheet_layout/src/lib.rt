@@ -8,3 +8,6 @@ mod line;
 mod statement;
 
 pub use definition::{append_definition, print_definition};
+
+#[cfg(test)]
+mod tests;

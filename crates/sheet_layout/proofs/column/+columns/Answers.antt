@@ -1,4 +1,4 @@
-use Rattle.std.proofs.Common.{◌≡◌, sym}
+use Rattle.std.proofs.Common.{sym}
 use Rattle.sheet_layout.proofs.Columns.{text-Object}
 use Rattle.sheet_layout.proofs.column.+columns.Goals as goal
 

@@ -1,4 +1,4 @@
-use Rattle.std.proofs.Common.{◌≡◌, sym}
+use Rattle.std.proofs.Common.{sym}
 use Rattle.sheet_layout.proofs.Statements.{text-If, text-IfElse, text-For}
 use Rattle.sheet_layout.proofs.statement.+statements.Goals as goal
 
