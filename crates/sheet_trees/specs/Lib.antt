@@ -1,4 +1,5 @@
 pub mod Grammar
 pub mod Operators
+pub mod Printing
 pub mod Reading
 pub mod Signs

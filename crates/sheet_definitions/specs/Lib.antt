@@ -1,0 +1,4 @@
+pub mod Club
+pub mod Examples
+pub mod Grammar
+pub mod Printing

@@ -1,0 +1,39 @@
+-- The texts of the statements that hold statements, where those are lists.
+use Rattle.std.proofs.Common.{◌≡◌, refl, ap, ◌∙◌, ℕ, List, ◌++◌}
+use Rattle.std.specs.Prelude.{codes}
+use Rattle.std.specs.List.{flat_map}
+use Rattle.sheet_trees.specs.declared.tree.Tree.{Tree}
+use Rattle.sheet_trees.specs.Printing.{formula_text}
+use Rattle.sheet_definitions.specs.declared.statement.Statement.{Statement, Row_of-Statement, end_of-Statement, more_of-Statement, items-the_row-Statement, items_hidden-the_row-Statement-0}
+use Rattle.sheet_definitions.specs.declared.statement.Statement.TheVariants as statement
+use Rattle.sheet_definitions.specs.declared.statement.Statement.TheBlock.{hidden-the_row-Statement-0}
+use Rattle.sheet_definitions.specs.Printing.{statement_text, statements_text, line_at, braced, inside}
+
+-- the statements inside one more brace
+abbrev lines : List Statement → List ℕ → List ℕ
+lines xs margin = flat_map (λ x. statement_text x (inside margin)) xs
+
+each_text : {m : _} (r : Row_of-Statement m) (margin : List ℕ) → statements_text r margin ≡ flat_map (λ x. statement_text x margin) (items-the_row-Statement m r)
+each_text end_of-Statement margin = refl
+each_text (more_of-Statement x rest) margin = ap (λ texts. statement_text x margin ++ texts) (each_text rest margin)
+
+listed : (xs : List Statement) (margin : List ℕ) → statements_text (hidden-the_row-Statement-0 xs) (inside margin) ≡ lines xs margin
+listed xs margin = each_text (hidden-the_row-Statement-0 xs) (inside margin) ∙ ap (flat_map (λ x. statement_text x (inside margin))) (items_hidden-the_row-Statement-0 xs)
+
+pub text-If : (line : ℕ) (e : Tree) (body : List Statement) (margin : List ℕ)
+    → statement_text (statement.If line e body) margin ≡ braced margin (codes "if " ++ formula_text e) (flat_map (λ x. statement_text x (inside margin)) body)
+text-If line e body margin = ap (braced margin (codes "if " ++ formula_text e)) (listed body margin)
+
+pub text-IfElse : (line : ℕ) (e : Tree) (body otherwise : List Statement) (margin : List ℕ)
+    → statement_text (statement.IfElse line e body otherwise) margin
+    ≡ line_at margin (codes "if " ++ formula_text e ++ codes " {") ++ flat_map (λ x. statement_text x (inside margin)) body
+    ++ braced margin (codes "} else") (flat_map (λ x. statement_text x (inside margin)) otherwise)
+text-IfElse line e body otherwise margin =
+    let opening = line_at margin (codes "if " ++ formula_text e ++ codes " {") in
+    ap (λ texts. opening ++ texts ++ braced margin (codes "} else") (statements_text (hidden-the_row-Statement-0 otherwise) (inside margin))) (listed body margin)
+    ∙ ap (λ texts. opening ++ lines body margin ++ braced margin (codes "} else") texts) (listed otherwise margin)
+
+pub text-For : (line : ℕ) (name : List ℕ) (e : Tree) (body : List Statement) (margin : List ℕ)
+    → statement_text (statement.For line name e body) margin
+    ≡ braced margin (codes "for " ++ name ++ codes " in " ++ formula_text e) (flat_map (λ x. statement_text x (inside margin)) body)
+text-For line name e body margin = ap (braced margin (codes "for " ++ name ++ codes " in " ++ formula_text e)) (listed body margin)
