@@ -1,4 +1,5 @@
 pub mod Grammar
 pub mod Operators
 pub mod Reading
+pub mod Refusals
 pub mod Signs
