@@ -11,10 +11,12 @@ use Rattle.sheet_tokens.specs.Tokens.{Reads, lexed}
 use Rattle.sheet_trees.specs.declared.tree.Tree.{Tree}
 use Rattle.sheet_trees.specs.declared.tree.Formed.{Formed}
 use Rattle.sheet_trees.specs.Grammar.{IsFormula, Produces, form, expression}
-use Rattle.sheet_trees.specs.Reading.{Answer, ◌>>=◌, formula_at, whole_formula, within}
+use Rattle.sheet_trees.specs.Reading.{Answer, ◌>>=◌, formula_at, nothing_behind, whole_formula, within}
 use Rattle.sheet_trees.proofs.Answering.{ok_then}
 use Rattle.sheet_trees.proofs.Soundness.{Stands, within_sound, whole_sound}
 use Rattle.sheet_trees.proofs.Completeness.{read_whole, whole_given}
+use Rattle.sheet_trees.proofs.Locality.{blocked, taken}
+use Rattle.sheet_trees.specs.Refusals.{IsBlocked}
 use Rattle.sheet_syntax.specs.Formulas.{StandsFor, Parses, parsed, parsed_at, ParsesAt}
 
 apart : {A : Type 0} (x : A) (d : SyntaxRefusal) → ◌≡◌ {A = Answer A} (Ok x) (Err d) → ⊥
@@ -35,7 +37,7 @@ pub parses : (text : List ℕ) (r : Result Tree SyntaxRefusal) → Reads (λ t. 
 parses text (Ok e) h = stands text e h
 parses text (Err (BadToken k)) h = none text (BadToken k) h
 parses text (Err (NumberTooWide k)) h = none text (NumberTooWide k) h
-parses text (Err (Expected k)) h = none text (Expected k) h
+parses text (Err (Expected k)) h = (none text (Expected k) h, λ tokens is. blocked (length text) tokens k (sym (ap (λ r. r >>= (λ tokens. whole_formula (length text) tokens)) is) ∙ h))
 parses text (Err (TooNested k)) h = none text (TooNested k) h
 parses text (Err NoMemory) h = tt
 
@@ -49,8 +51,9 @@ shorter limit room end ts x deep e =
     let same : length ts ≡ length s.front + length x.1 = ap length s.split ∙ length-append s.front x.1 in
     omega arith
 
-stands_at : (tokens : TokenList) (from : ℕ) (x : Tree × ℕ) → from ≤ length tokens.list → x.1 ≤ length tokens.list → parsed_at tokens from ≡ Ok (x.0, drop x.1 tokens.list) → ParsesAt tokens.list from (Ok x)
-stands_at tokens from x within below h =
+stands_front : (tokens : TokenList) (from : ℕ) (x : Tree × ℕ) → from ≤ length tokens.list → x.1 ≤ length tokens.list → parsed_at tokens from ≡ Ok (x.0, drop x.1 tokens.list)
+    → (from ≤ x.1) × IsFormula (take (x.1 - from) (drop from tokens.list)) x.0
+stands_front tokens from x within below h =
     let (y, found, is) = ok_then (formula_at 32 32 tokens.text_length (drop from tokens.list)) (λ x. Ok (x.0.tree, x.1)) (x.0, drop x.1 tokens.list) h in
     let s = front_of 32 32 tokens.text_length (drop from tokens.list) y (omega arith) found in
     let both : (y.0.tree, y.1) ≡ (x.0, drop x.1 tokens.list) = pair_ok is in
@@ -68,15 +71,39 @@ stands_at tokens from x within below h =
       pair_ok : {p q : Tree × List Token} → ◌≡◌ {A = Answer (Tree × List Token)} (Ok p) (Ok q) → p ≡ q
       pair_ok {p} {q} e = cc
 
+same_pair : (p q : Tree × List Token) → ◌≡◌ {A = Answer (Tree × List Token)} (Ok p) (Ok q) → p ≡ q
+same_pair p q e = cc
+
+stands_at : (tokens : TokenList) (from : ℕ) (x : Tree × ℕ) → from ≤ length tokens.list → x.1 ≤ length tokens.list → parsed_at tokens from ≡ Ok (x.0, drop x.1 tokens.list) → ParsesAt tokens from (Ok x)
+stands_at tokens from x within below h =
+    let (short, is_formula) = stands_front tokens from x within below h in (
+      short,
+      is_formula,
+      λ t rest e.
+          let (y, found, is) = ok_then (formula_at 32 32 tokens.text_length (drop from tokens.list)) (λ x. Ok (x.0.tree, x.1)) (x.0, drop x.1 tokens.list) h in
+          let both = same_pair (y.0.tree, y.1) (x.0, drop x.1 tokens.list) is in
+          let behind : y.1 ≡ t ∷ rest = ap (λ (p : Tree × List Token). p.1) both ∙ e in
+          taken tokens.text_length (drop from tokens.list) y.0 t rest (found ∙ ap (λ l. Ok (y.0, l)) behind),
+    )
+
+err_front : (r : Answer (Formed × List Token)) (d : SyntaxRefusal) → ◌≡◌ {A = Answer (Tree × List Token)} (r >>= (λ x. Ok (x.0.tree, x.1))) (Err d) → ◌≡◌ {A = Answer (Formed × List Token)} r (Err d)
+err_front (Ok x) d e = let wrong : ⊥ = cc in absurd wrong
+err_front (Err c) d e = let same : c ≡ d = cc in ap Err same
+
+blocked_front : (tokens : TokenList) (from k : ℕ) → parsed_at tokens from ≡ Err (Expected k) → IsBlocked tokens.text_length (drop from tokens.list) k
+blocked_front tokens from k h =
+    blocked tokens.text_length (drop from tokens.list) k
+    (ap (λ r. r >>= nothing_behind tokens.text_length) (err_front (formula_at 32 32 tokens.text_length (drop from tokens.list)) (Expected k) h))
+
 none_at : (tokens : TokenList) (from : ℕ) (d : SyntaxRefusal) → parsed_at tokens from ≡ Err d → (e : Tree) → IsFormula (drop from tokens.list) e → ⊥
 none_at tokens from d h e f =
     apart (e, []) d (sym (ap (λ r. r >>= (λ x. Ok (x.0.tree, x.1))) (read_whole (drop from tokens.list) (form e f.depth f.nest) f.produced 32 tokens.text_length 32 f.shallow f.narrow)) ∙ h)
 
-pub parses_at : (tokens : TokenList) (from : ℕ) (r : Result (Tree × ℕ) SyntaxRefusal) → from ≤ length tokens.list → IfOk r (λ x. x.1 ≤ length tokens.list) → Reads (λ x. (x.0, drop x.1 tokens.list)) r (parsed_at tokens from) → ParsesAt tokens.list from r
+pub parses_at : (tokens : TokenList) (from : ℕ) (r : Result (Tree × ℕ) SyntaxRefusal) → from ≤ length tokens.list → IfOk r (λ x. x.1 ≤ length tokens.list) → Reads (λ x. (x.0, drop x.1 tokens.list)) r (parsed_at tokens from) → ParsesAt tokens from r
 parses_at tokens from (Ok x) within below h = stands_at tokens from x within below h
 parses_at tokens from (Err (BadToken k)) within below h = none_at tokens from (BadToken k) h
 parses_at tokens from (Err (NumberTooWide k)) within below h = none_at tokens from (NumberTooWide k) h
-parses_at tokens from (Err (Expected k)) within below h = none_at tokens from (Expected k) h
+parses_at tokens from (Err (Expected k)) within below h = (none_at tokens from (Expected k) h, blocked_front tokens from k h)
 parses_at tokens from (Err (TooNested k)) within below h = none_at tokens from (TooNested k) h
 parses_at tokens from (Err NoMemory) within below h = tt
 

@@ -41,7 +41,7 @@ fn read_text(alloc: Global, text: &[u8]) -> Result<Tree, SyntaxRefusal>
 pub fn parse_at(alloc: Global, tokens: &Tokens, from: usize) -> Result<(Tree, usize), SyntaxRefusal>
     requires { from ≤ length tokens.now.list }
     ensures exact { Reads (λ x. (x.0, drop x.1 tokens.now.list)) result (parsed_at tokens.now from) }
-    ensures stands { ParsesAt tokens.now.list from result }
+    ensures stands { ParsesAt tokens.now from result }
     ensures within { IfOk result (λ x. x.1 ≤ length tokens.now.list) }
 {
     read_from(alloc, tokens, from)

@@ -6,7 +6,10 @@ mod operators;
 mod sign;
 mod tree;
 
-pub use law::tokens_stand_for_one_tree;
+pub use law::{
+    refused_tokens_begin_no_formula, tokens_are_taken_as_long_as_they_begin_a_formula,
+    tokens_stand_for_one_tree,
+};
 pub use operators::{Function, Gathering, Level, Operator, Prefix, Quantifier};
 pub use sign::{Sign, sign_of};
 pub use tree::{Formed, Tree};
