@@ -1,39 +1,24 @@
 -- The rows after objects are gone stand for the workbook without them.
-use Rattle.std.proofs.Common.{◌≡◌, refl, sym, ap, ◌∙◌, subst, ℕ, ◌+◌, ◌-◌, ◌<◌, ◌≤◌, zero, suc, Bool, true, false, cond, List, [], ◌∷◌, ◌++◌, length, arith, Option, Some, None, eq-eqb, ◌⊎◌, inl, inr, ⊎_elim}
-use Rattle.std.specs.Prelude.{not, nat_lt, ◌==◌, ◌&&◌, ◌||◌, if◌then◌else◌, map, filter, fold, sum_by, IsSome}
-use Rattle.std.specs.List.{filter_map, flat_map, cons_option, list_any, AllByRecursion}
-use Rattle.std.specs.declared.cmp.Ordering.{Ordering}
-use Rattle.std.specs.declared.cmp.Ordering.TheVariants.{Less, Equal, Greater}
-use Rattle.std.specs.Ordering.{is_eq, nat_cmp, on, ordering_then}
-use Rattle.std.specs.Cmp.{nat_cmp_is}
-use Rattle.std.proofs.lemmas.Bool.{eqb-true, lt-ltb, le-ltb}
-use Rattle.std.proofs.lemmas.List.{append-nil}
+use Rattle.std.proofs.Common.{◌≡◌, refl, sym, ap, ◌∙◌, ℕ, ◌+◌, ◌-◌, ◌≤◌, suc, Bool, true, false, cond, List, [], ◌∷◌, length, arith, Option, Some, None}
+use Rattle.std.specs.Prelude.{not, ◌==◌, ◌&&◌, ◌||◌, if◌then◌else◌, map, filter, sum_by}
+use Rattle.std.specs.List.{cons_option, AllByRecursion}
+use Rattle.std.proofs.lemmas.Bool.{eqb-true}
 use Rattle.std.proofs.lemmas.List.Sums.{sum_by-cons}
-use Rattle.sheet_values.specs.Sorted.{IsBelow, IsRising, agrees, contains as holds}
 use Rattle.sheet_values.specs.Sets.{contains, minus}
 use Rattle.sheet_values.specs.declared.value.Value.{Value}
 use Rattle.sheet_values.specs.declared.value.Value.TheVariants.{Object}
-use Rattle.sheet_columns.specs.ItemOrder.{item_cmp}
-use Rattle.sheet_columns.specs.declared.item.Item.{Item}
-use Rattle.sheet_columns.specs.declared.item.Item.TheVariants.{Live, Up, Extent, Stored}
 use Rattle.sheet_columns.specs.Tree.{is_number}
-use Rattle.sheet_columns.specs.declared.tree.Node.{Node}
-use Rattle.sheet_objects.specs.Rows.{Table}
 use Rattle.sheet_objects.specs.declared.row.ObjectRow.{ObjectRow}
 use Rattle.sheet_objects.specs.declared.row.SetRow.{SetRow}
-use Rattle.sheet_meaning.specs.Changes.{has_number, has_parent_in, is_other, family, without, without_object}
-use Rattle.sheet_meaning.specs.Workbook.{object_at, column_in, parent_in, children_in, is_child, set_in}
-use Rattle.sheet_meaning.specs.WellFormed.{stored_values, cell_count, IsWellFormed}
+use Rattle.sheet_meaning.specs.Changes.{has_number, has_parent_in, is_other}
+use Rattle.sheet_meaning.specs.Workbook.{children_in, is_child, set_in}
+use Rattle.sheet_meaning.specs.WellFormed.{stored_values}
 use Rattle.sheet_meaning.specs.declared.workbook.LiveObject.{LiveObject}
 use Rattle.sheet_meaning.specs.declared.workbook.StoredCell.{StoredCell}
-use Rattle.sheet_meaning.specs.declared.workbook.State.{State}
-use Rattle.sheet_state.specs.Deaths.{doomed_in, is_doomed, buried, swept, lost, lost_cells, lost_objects, counted_without, rid_of}
-use Rattle.sheet_state.specs.Kept.{book, object_columns, extents_of, IsMoment}
-use Rattle.sheet_state.specs.Rows.{live_object, live_cell, object_of, objects_in, cells_in, state_of, moment, row_cmp, object_cmp, IsSound}
-use Rattle.sheet_state.proofs.Existing.{key}
-use Rattle.sheet_state.proofs.Family.{Knows, knows_number, doomed_known}
-use Rattle.sheet_state.proofs.Without.{stays, cell_stays, cleaned, children_left, pairs_left, weight_of, cells_weighed, left_well_formed, family_closed, keys_left, IsClosed}
-use Rattle.sheet_state.proofs.WithSet.{all_mono}
+use Rattle.sheet_state.specs.Deaths.{is_doomed, buried, swept, lost}
+use Rattle.sheet_state.specs.Rows.{live_object, live_cell, object_of, objects_in, cells_in}
+use Rattle.sheet_state.proofs.Family.{Knows, knows_number}
+use Rattle.sheet_state.proofs.Without.{stays, cell_stays, cleaned, IsClosed}
 
 -- filters by tests that agree
 filter_same : {A : Type 0} (p q : A → Bool) → ((x : A) → p x ≡ q x) → (xs : List A) → filter p xs ≡ filter q xs

@@ -16,3 +16,4 @@ pub mod Without
 pub mod Gone
 pub mod Rid
 pub mod Told
+pub mod Searching

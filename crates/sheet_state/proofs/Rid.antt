@@ -1,7 +1,6 @@
 -- The table after objects are gone.
-use Rattle.std.proofs.Common.{◌≡◌, refl, sym, ap, ◌∙◌, subst, ℕ, ◌+◌, ◌-◌, ◌<◌, ◌≤◌, Bool, true, false, cond, List, [], ◌∷◌, ◌++◌, length, arith, Option, Some, None}
-use Rattle.std.specs.Prelude.{not, ◌&&◌, if◌then◌else◌, map, filter, sum_by}
-use Rattle.std.specs.List.{flat_map, AllByRecursion}
+use Rattle.std.proofs.Common.{◌≡◌, refl, sym, ap, ◌∙◌, subst, ℕ, ◌-◌, ◌<◌, Bool, true, false, List, [], ◌∷◌, length, arith}
+use Rattle.std.specs.Prelude.{not, if◌then◌else◌, map, filter, sum_by}
 use Rattle.std.specs.declared.cmp.Ordering.{Ordering}
 use Rattle.std.specs.Ordering.{nat_cmp, ordering_then}
 use Rattle.std.proofs.lemmas.List.Sums.{sum_by-cons}
@@ -15,16 +14,16 @@ use Rattle.sheet_objects.specs.declared.row.ObjectRow.{ObjectRow}
 use Rattle.sheet_objects.specs.declared.row.SetRow.{SetRow}
 use Rattle.sheet_meaning.specs.Changes.{has_number, is_other, family, without_object}
 use Rattle.sheet_meaning.specs.Workbook.{children_in, set_in}
-use Rattle.sheet_meaning.specs.WellFormed.{stored_values, cell_count, IsWellFormed}
+use Rattle.sheet_meaning.specs.WellFormed.{cell_count, IsWellFormed}
 use Rattle.sheet_meaning.specs.declared.workbook.LiveObject.{LiveObject}
 use Rattle.sheet_meaning.specs.declared.workbook.StoredCell.{StoredCell}
 use Rattle.sheet_meaning.specs.declared.workbook.State.{State}
-use Rattle.sheet_state.specs.Deaths.{doomed_in, is_doomed, buried, swept, lost, lost_cells, lost_objects, counted_without, rid_of}
+use Rattle.sheet_state.specs.Deaths.{doomed_in, is_doomed, buried, swept, lost_cells, rid_of}
 use Rattle.sheet_state.specs.Kept.{book, object_columns, extents_of, IsMoment}
 use Rattle.sheet_state.specs.Rows.{objects_in, cells_in, state_of, moment, row_cmp, object_cmp, IsSound}
 use Rattle.sheet_state.proofs.Existing.{key}
 use Rattle.sheet_state.proofs.Family.{Knows, doomed_known}
-use Rattle.sheet_state.proofs.Without.{stays, cell_stays, cleaned, children_left, pairs_left, weight_of, cells_weighed, left_well_formed, family_closed, keys_left}
+use Rattle.sheet_state.proofs.Without.{stays, children_left, pairs_left, weight_of, cells_weighed, left_well_formed, family_closed, keys_left}
 use Rattle.sheet_state.proofs.Gone.{objects_left, cells_left, set_left, orphans, weighed_apart, values_apart}
 use Rattle.sheet_state.proofs.WithSet.{all_mono}
 use Rattle.sheet_state.proofs.WithObject.{all_map}

@@ -1,10 +1,8 @@
 -- The items that a deletion changes.
-use Rattle.std.proofs.Common.{◌≡◌, refl, sym, ap, ◌∙◌, subst, ℕ, ◌+◌, ◌-◌, ◌<◌, ◌≤◌, zero, suc, Bool, true, false, cond, List, [], ◌∷◌, ◌++◌, length, arith, Option, Some, None, eq-eqb, inl, inr}
+use Rattle.std.proofs.Common.{◌≡◌, refl, sym, ap, ◌∙◌, subst, ℕ, ◌-◌, ◌<◌, ◌≤◌, suc, Bool, true, false, cond, List, [], ◌∷◌, ◌++◌, length, arith, Option, Some, None, eq-eqb, inl, inr}
 use Rattle.std.specs.Prelude.{not, nat_lt, ◌==◌, ◌&&◌, ◌||◌, if◌then◌else◌, map, filter, is_some}
-use Rattle.std.specs.List.{flat_map, cons_option, list_any, AllByRecursion}
-use Rattle.std.specs.declared.cmp.Ordering.{Ordering}
-use Rattle.std.specs.declared.cmp.Ordering.TheVariants.{Less, Equal, Greater}
-use Rattle.std.specs.Ordering.{is_eq, nat_cmp}
+use Rattle.std.specs.List.{flat_map, cons_option, list_any}
+use Rattle.std.specs.Ordering.{is_eq}
 use Rattle.std.proofs.lemmas.Bool.{eqb-true, lt-ltb, le-ltb, cases_lt}
 use Rattle.std.proofs.lemmas.List.{nil_from_length}
 use Rattle.std.proofs.lemmas.List.Folds.{list_any-append}
@@ -21,22 +19,22 @@ use Rattle.sheet_objects.specs.declared.row.ObjectRow.{ObjectRow}
 use Rattle.sheet_objects.specs.declared.row.SetRow.{SetRow}
 use Rattle.sheet_meaning.specs.Changes.{has_number, family, without_object}
 use Rattle.sheet_meaning.specs.Formula.{sets_equal}
-use Rattle.sheet_meaning.specs.Items.{numbers_equal, is_changed}
+use Rattle.sheet_meaning.specs.Items.{numbers_equal}
 use Rattle.sheet_meaning.specs.Workbook.{object_at, column_in, parent_in, children_in, set_in}
 use Rattle.sheet_meaning.specs.declared.workbook.LiveObject.{LiveObject}
 use Rattle.sheet_meaning.specs.declared.workbook.StoredCell.{StoredCell}
 use Rattle.sheet_meaning.specs.declared.workbook.State.{State}
 use Rattle.sheet_state.specs.Births.{with_items}
-use Rattle.sheet_state.specs.Deaths.{doomed_in, is_doomed, buried_items, up_items, swept, swept_items, lost, rid_of, rid_items}
+use Rattle.sheet_state.specs.Deaths.{doomed_in, is_doomed, buried_items, up_items, swept, swept_items, lost, rid_items}
 use Rattle.sheet_state.specs.Kept.{IsMoment, AreChanged}
 use Rattle.sheet_state.specs.Rows.{live_object, live_cell, object_cmp, object_of, objects_in, cells_in, state_of, moment, row_cmp, is_set, IsSound}
 use Rattle.sheet_state.proofs.Family.{Knows, knows_number, doomed_known}
 use Rattle.sheet_state.proofs.Lookups.{set_first, set_skip}
 use Rattle.sheet_state.proofs.Newborn.{has_items}
 use Rattle.sheet_state.proofs.SetRows.{at, apart, passes, key_is}
-use Rattle.sheet_state.proofs.Rid.{swept_key, state_rid, children_rid}
+use Rattle.sheet_state.proofs.Rid.{state_rid, children_rid}
 use Rattle.sheet_state.proofs.Without.{found_left, differs, nat_less, filter_short}
-use Rattle.sheet_state.proofs.WithSet.{item_is, item_itself, numbers_same, sets_are, sets_same, sets_differ}
+use Rattle.sheet_state.proofs.WithSet.{item_is, item_itself, numbers_same, sets_are, sets_same}
 
 abbrev among : Item → List Item → Bool
 among x ys = list_any (λ y. is_eq (item_cmp x y)) ys

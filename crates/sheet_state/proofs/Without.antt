@@ -1,6 +1,6 @@
 -- A workbook without an object and all below it.
-use Rattle.std.proofs.Common.{◌≡◌, refl, sym, ap, ◌∙◌, subst, ℕ, ◌+◌, ◌<◌, ◌≤◌, zero, suc, Bool, true, false, cond, List, [], ◌∷◌, ◌++◌, length, arith, Option, Some, None, eq-eqb, ◌⊎◌, inl, inr, ⊎_elim, length-append}
-use Rattle.std.specs.Prelude.{not, ◌==◌, ◌&&◌, ◌||◌, if◌then◌else◌, map, filter, fold, sum_by}
+use Rattle.std.proofs.Common.{◌≡◌, refl, sym, ap, ◌∙◌, ℕ, ◌+◌, ◌<◌, ◌≤◌, suc, Bool, true, false, cond, List, [], ◌∷◌, ◌++◌, length, arith, Option, Some, None, eq-eqb, inl, inr, length-append}
+use Rattle.std.specs.Prelude.{not, ◌==◌, ◌||◌, if◌then◌else◌, map, filter, fold, sum_by}
 use Rattle.std.specs.List.{flat_map, AllByRecursion}
 use Rattle.std.specs.declared.cmp.Ordering.{Ordering}
 use Rattle.std.specs.declared.cmp.Ordering.TheVariants.{Less, Equal, Greater}
@@ -17,13 +17,13 @@ use Rattle.sheet_values.specs.declared.value.Kind.{Kind}
 use Rattle.sheet_values.specs.declared.value.Kind.TheVariants as kind
 use Rattle.sheet_values.specs.declared.value.Value.{Value}
 use Rattle.sheet_values.specs.declared.value.Value.TheVariants.{Truth, Number, Text, Object}
-use Rattle.sheet_columns.specs.Tree.{column_of, above_of, is_number}
+use Rattle.sheet_columns.specs.Tree.{column_of}
 use Rattle.sheet_columns.specs.declared.tree.Column.{Column}
 use Rattle.sheet_columns.specs.declared.tree.Column.TheVariants as column
 use Rattle.sheet_columns.specs.declared.tree.Node.{Node}
 use Rattle.sheet_meaning.specs.Changes.{has_number, has_parent_in, family, is_other, without}
-use Rattle.sheet_meaning.specs.Workbook.{object_at, column_in, children_in, is_child, set_in, cells_of, formula_cells}
-use Rattle.sheet_meaning.specs.WellFormed.{StateColumn, state_columns, state_cells, cell_count, stored_values, IsUnder, HasKind, HoldsKind, IsWellFormed, max_cells, max_values}
+use Rattle.sheet_meaning.specs.Workbook.{object_at, column_in, children_in, is_child, cells_of, formula_cells}
+use Rattle.sheet_meaning.specs.WellFormed.{StateColumn, state_columns, state_cells, cell_count, stored_values, IsUnder, HasKind, HoldsKind, IsWellFormed}
 use Rattle.sheet_meaning.specs.declared.workbook.LiveObject.{LiveObject}
 use Rattle.sheet_meaning.specs.declared.workbook.StoredCell.{StoredCell}
 use Rattle.sheet_meaning.specs.declared.workbook.State.{State}

@@ -1,5 +1,5 @@
 -- The rows after objects are gone.
-use Rattle.std.specs.Prelude.{ℕ, ◌+◌, ◌-◌, ◌==◌, ◌&&◌, ◌||◌, nat_lt, slice_index_or, Bool, true, false, if◌then◌else◌, List, [], ◌∷◌, ◌++◌, map, fold, length, sum_by, Option, Some, None}
+use Rattle.std.specs.Prelude.{ℕ, ◌+◌, ◌-◌, ◌==◌, ◌&&◌, ◌||◌, nat_lt, slice_index_or, Bool, false, if◌then◌else◌, List, [], ◌∷◌, map, fold, length, sum_by, Option, Some, None}
 use Rattle.std.specs.List.{flat_map}
 use Rattle.sheet_values.specs.Sets.{contains, insert, minus}
 use Rattle.sheet_values.specs.declared.value.Value.{Value}

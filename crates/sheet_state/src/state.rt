@@ -6,7 +6,7 @@ ghost use Rattle.sheet_columns.specs.declared.tree.Column.TheVariants.{Object as
 ghost use Rattle.sheet_columns.specs.declared.item.Item.TheVariants.{Stored};
 ghost use Rattle.sheet_objects.specs.Rows.{with_cells, with_counters};
 ghost use Rattle.sheet_values.specs.Order.{value_cmp};
-ghost use Rattle.sheet_values.specs.Sorted.{insert};
+ghost use Rattle.sheet_values.specs.Sorted.{insert, IsRising};
 ghost use Rattle.sheet_values.specs.declared.value.Value.TheVariants.{Object};
 ghost use Rattle.sheet_meaning.specs.Changes.{with_set, with_object, without_object};
 ghost use Rattle.sheet_meaning.specs.Workbook.{object_at, column_in, parent_in, children_in, set_in};
@@ -14,7 +14,7 @@ ghost use Rattle.sheet_meaning.specs.WellFormed.{HoldsKind};
 ghost use Rattle.sheet_state.specs.Births.{born, born_items};
 ghost use Rattle.sheet_state.specs.Deaths.{rid_of, rid_items};
 ghost use Rattle.sheet_state.specs.Kept.{IsKept, AreChanged, schema_of, book, start};
-ghost use Rattle.sheet_state.specs.Rows.{object_of, objects_in, cells_in};
+ghost use Rattle.sheet_state.specs.Rows.{object_of, objects_in, cells_in, object_cmp, row_cmp};
 ghost use Rattle.sheet_state.specs.Limits.{full_of, first_full, Refuses};
 
 use crate::StateRefusal;
@@ -284,6 +284,7 @@ impl State {
 
 // The row of a live object.
 fn row_of(rows: &[ObjectRow], object: u64) -> Option<ObjectRow>
+    requires { IsRising object_cmp rows.now }
     ensures { option_map object_of result ≡ object_at (objects_in rows.now) object }
 {
     match object_place(rows, object) {
@@ -294,7 +295,8 @@ fn row_of(rows: &[ObjectRow], object: u64) -> Option<ObjectRow>
 
 // The set of a live object in a column, and nothing where there is none.
 fn set_or<'a>(rows: &'a [SetRow], object: u64, column: u32, nothing: &'a Set) -> &'a Set
-    requires { nothing.now ≡ [] }
+    requires nothing { nothing.now ≡ [] }
+    requires rising { IsRising row_cmp rows.now }
     ensures { result.now ≡ set_in (cells_in rows.now) object column }
 {
     match set_place(rows, object, column) {

@@ -1,14 +1,12 @@
-use Rattle.std.proofs.Common.{◌≡◌, ◌<◌, ◌-◌, ◌∙◌, sym, ap, arith, length, take, get_or, [], None, false}
+use Rattle.std.proofs.Common.{◌≡◌, ◌<◌, ◌-◌, ◌∙◌, ap, arith, length, take, get_or, [], false}
 use Rattle.std.specs.Prelude.{slice_set, sum_by}
 use Rattle.std.specs.List.{flat_map}
-use Rattle.sheet_columns.specs.declared.item.Item.{Item}
-use Rattle.sheet_columns.specs.declared.item.Item.TheVariants.{Extent, Stored}
-use Rattle.sheet_objects.specs.Rows.{Table, with_objects, with_cells, with_extents}
-use Rattle.sheet_objects.specs.declared.row.ObjectRow.{ObjectRow}
+use Rattle.sheet_columns.specs.declared.item.Item.TheVariants.{Stored}
+use Rattle.sheet_objects.specs.Rows.{Table, with_cells}
 use Rattle.sheet_objects.specs.declared.row.SetRow.{SetRow}
 use Rattle.sheet_state.specs.Births.{with_items}
-use Rattle.sheet_state.specs.Deaths.{buried, swept, buried_items, swept_items, lost, lost_objects, lost_cells, object_row, set_row}
-use Rattle.sheet_state.proofs.Sweeping.{partly, partly_more, partly_got, items_more, less_more}
+use Rattle.sheet_state.specs.Deaths.{swept, swept_items, lost, set_row}
+use Rattle.sheet_state.proofs.Sweeping.{partly_more, partly_got, items_more, less_more}
 use Rattle.sheet_state.proofs.death.sweep_cells.Goals as goal
 
 abbrev none : SetRow

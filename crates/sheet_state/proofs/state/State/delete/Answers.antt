@@ -1,8 +1,7 @@
-use Rattle.std.proofs.Common.{◌≡◌, ◌∙◌, refl, sym, ap, subst, [], ◌∷◌, ◌++◌}
+use Rattle.std.proofs.Common.{◌≡◌, ◌∙◌, sym, ap, subst, [], ◌∷◌}
 use Rattle.std.specs.Prelude.{map, List}
 use Rattle.std.specs.List.{AllByRecursion}
 use Rattle.std.proofs.lemmas.List.{map-append}
-use Rattle.sheet_objects.specs.Rows.{Table}
 use Rattle.sheet_objects.specs.declared.row.ObjectRow.{ObjectRow}
 use Rattle.sheet_meaning.specs.Changes.{without_object}
 use Rattle.sheet_state.specs.Deaths.{doomed_in, rid_of, rid_items}
