@@ -1,6 +1,7 @@
 -- The turns of loops over a list.
 use Rattle.std.proofs.Common.{◌≡◌, refl, sym, ap, ◌∙◌, ℕ, ◌+◌, ◌<◌, List, [], ◌∷◌, ◌++◌, length, get_or, take, Option, Some, None}
-use Rattle.std.specs.Prelude.{map}
+use Rattle.std.specs.Prelude.{map, fold}
+use Rattle.std.proofs.lemmas.List.Sums.{fold_more}
 use Rattle.std.specs.List.{filter_map, cons_option}
 use Rattle.std.specs.Option.{option_to_list}
 use Rattle.sheet_values.specs.declared.value.Value.{Value}
@@ -43,3 +44,7 @@ module _ {X : Type 0} (xs : List X) (i : ℕ) (x : X) (lt : i < length xs) (e : 
 
 pub reads_join : (us vs : List Value) → live_reads (us ++ vs) ≡ live_reads us ++ live_reads vs
 reads_join us vs = ap (map (λ o. Read (Live o))) (filter_map-append object_in us vs) ∙ map-append (λ o. Read (Live o)) (filter_map object_in us) (filter_map object_in vs)
+
+-- a fold goes on
+pub one_folded : {X Y : Type 0} (xs : List X) (i : ℕ) (d : X) → i < length xs → (f : Y → X → Y) (a y z : Y) → y ≡ fold f a (take i xs) → z ≡ f y (get_or xs i d) → z ≡ fold f a (take (i + 1) xs)
+one_folded xs i d lt f a y z so_far more = more ∙ ap (λ b. f b (get_or xs i d)) so_far ∙ sym (fold_more f a xs i d lt)

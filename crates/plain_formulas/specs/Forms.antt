@@ -1,5 +1,5 @@
 -- What each form makes of the evaluations of its parts.
-use Rattle.std.specs.Prelude.{ℤ, pos, ◌+ℤ◌, neg_ℤ, ◌||◌, ◌&&◌, not, Bool, true, false, if◌then◌else◌, List, [], ◌∷◌, ◌++◌, fold, length, Ok}
+use Rattle.std.specs.Prelude.{ℤ, pos, ◌+ℤ◌, neg_ℤ, ◌||◌, ◌&&◌, not, Bool, true, false, if◌then◌else◌, List, [], ◌∷◌, ◌++◌, fold, map, length, Ok, Err}
 use Rattle.sheet_values.specs.declared.value.Value.{Value}
 use Rattle.sheet_values.specs.declared.value.Value.TheVariants.{Number}
 use Rattle.sheet_values.specs.Order.{value_cmp}
@@ -68,22 +68,17 @@ united rs = finish (all rs) (λ parts. Ok (fold union [] (joined parts)))
 
 -- each by itself, in a list
 abbrev pub singles : {A : Type 0} → List (Run A) → List (Run (List A))
-singles [] = []
-singles (r ∷ rs) = single r ∷ singles rs
+singles rs = map single rs
 
--- a condition and a body for each value
-abbrev pub turns : {A : Type 0} → List (Run Bool) → List (Run A) → List (Run (List A))
-turns [] bodies = []
-turns (c ∷ cs) [] = []
-turns (c ∷ cs) (b ∷ bs) = turn c b ∷ turns cs bs
+-- what each value of a comprehension gives, from its condition and its body
+abbrev pub turns : Place → List (Run (List Value) × Run (List Value)) → List (Run (List (List Value)))
+turns p pairs = map (λ x. turn (truth p x.0) x.1) pairs
+
+abbrev pub number_turns : Place → List (Run (List Value) × Run (List Value)) → List (Run (List ℤ))
+number_turns p pairs = map (λ x. turn (truth p x.0) (number p x.1)) pairs
 
 abbrev pub truths_of : Place → List (Run (List Value)) → List (Run Bool)
-truths_of p [] = []
-truths_of p (r ∷ rs) = truth p r ∷ truths_of p rs
-
-abbrev pub numbers_of : Place → List (Run (List Value)) → List (Run ℤ)
-numbers_of p [] = []
-numbers_of p (r ∷ rs) = number p r ∷ numbers_of p rs
+truths_of p rs = map (truth p) rs
 
 -- the exact total, tested once
 abbrev pub totalled : Place → List (Run (List ℤ)) → Run (List Value)
@@ -99,3 +94,8 @@ quantified_over q rs = finish (finish (all rs) (λ parts. Ok (answered q (joined
 -- what is made for the values of a source, which is judged first
 abbrev pub for_source : Run (List Value) → Run (List Value) → Run (List Value)
 for_source source r = and_then source (λ s. r)
+
+-- the values of an outcome, and none of a fault
+abbrev pub values_in : Outcome (List Value) → List Value
+values_in (Ok xs) = xs
+values_in (Err e) = []

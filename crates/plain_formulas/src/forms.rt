@@ -1,11 +1,11 @@
 // What each form makes of the evaluations of its parts.
-ghost use Rattle.std.specs.Prelude.{◌≡◌, ◌++◌, ◌∷◌, [], ℤ, pos, ◌+ℤ◌, ◌-ℤ◌, ◌*ℤ◌, neg_ℤ, int_div, int_rem, IfOk, fold, length, not, Ok, Err, ◌^◌, ◌<◌};
+ghost use Rattle.std.specs.Prelude.{◌≡◌, ◌++◌, ◌∷◌, [], ℤ, pos, ◌||◌, ◌&&◌, ◌+ℤ◌, ◌-ℤ◌, ◌≤ℤ◌, ◌^◌, ◌*ℤ◌, neg_ℤ, int_div, int_rem, IfOk, fold, map, length, not};
 ghost use Rattle.sheet_values.specs.declared.value.Value.TheVariants.{Number};
 ghost use Rattle.sheet_values.specs.Order.{value_cmp};
-ghost use Rattle.sheet_meaning.specs.Run.{done, finish, and_then, all as all_parts};
-ghost use Rattle.sheet_meaning.specs.Formula.{told, fits, fits_text, ordered, arithmetic, extreme, last, step, on_object, single, divide};
+ghost use Rattle.sheet_meaning.specs.Run.{done, finish, and_then};
+ghost use Rattle.sheet_meaning.specs.Formula.{told, fits, fits_text, ordered, arithmetic, extreme, last, step, on_object, divide};
 ghost use Rattle.plain_formulas.specs.Told.{scene, way_of};
-ghost use Rattle.plain_formulas.specs.Forms.{combined, compared, in_order, calculated, negated, joined_texts, denied, connected, chosen, counted, only, extreme_of, all_joined, united, singles, turns, truths_of, numbers_of, totalled, answered, quantified_over, for_source};
+ghost use Rattle.plain_formulas.specs.Forms.{combined, compared, in_order, calculated, negated, joined_texts, denied, connected, chosen, counted, only, extreme_of, united, singles, turns, number_turns, truths_of, totalled, answered, quantified_over, for_source, values_in};
 
 use crate::lists::{alone, combine, compare, union_of_all};
 use crate::lookup::{Way, WorkedCell, way_from};
@@ -120,12 +120,7 @@ pub fn in_order(
 }
 
 // The number, or that it is outside 64 bits.
-fn added(
-    alloc: Global,
-    place: Place,
-    a: i64,
-    b: i64,
-) -> Result<Result<Values, Fault>, NoMemory>
+fn added(alloc: Global, place: Place, a: i64, b: i64) -> Result<Result<Values, Fault>, NoMemory>
     ensures { IfOk result (λ o. o ≡ fits place (a +ℤ b)) }
 {
     match a.checked_add(b) {
@@ -162,12 +157,7 @@ fn multiplied(
     }
 }
 
-fn divided(
-    alloc: Global,
-    place: Place,
-    a: i64,
-    b: i64,
-) -> Result<Result<Values, Fault>, NoMemory>
+fn divided(alloc: Global, place: Place, a: i64, b: i64) -> Result<Result<Values, Fault>, NoMemory>
     ensures { IfOk result (λ o. o ≡ divide place int_div a b) }
 {
     if b == 0 {
@@ -180,12 +170,7 @@ fn divided(
 }
 
 // The remainder of a division by -1 is 0, also where the quotient is outside 64 bits.
-fn remainder(
-    alloc: Global,
-    place: Place,
-    a: i64,
-    b: i64,
-) -> Result<Result<Values, Fault>, NoMemory>
+fn remainder(alloc: Global, place: Place, a: i64, b: i64) -> Result<Result<Values, Fault>, NoMemory>
     ensures { IfOk result (λ o. o ≡ divide place int_rem a b) }
 {
     if b == 0 {
@@ -457,4 +442,290 @@ fn last<'a>(first: &'a Value, more: &'a [Value]) -> &'a Value
         None => first,
         Some((next, rest)) => last(next, rest),
     }
+}
+
+// The union of parts.
+fn united(alloc: Global, parts: Vec<Run<Items<Values>>>) -> Result<Run<Values>, NoMemory>
+    ensures { IfOk result (λ r. r ≡ united parts.items) }
+{
+    let Run { outcome, uses } = all_joined(alloc, parts)?;
+    match outcome {
+        Ok(sets) => {
+            let set = union_of_all(alloc, sets.as_slice())?;
+            Ok(Run {
+                outcome: Ok(set),
+                uses,
+            })
+        }
+        Err(fault) => Ok(Run {
+            outcome: Err(fault),
+            uses,
+        }),
+    }
+}
+
+fn single_parts<A: Drop>(alloc: Global, parts: Vec<Run<A>>) -> Result<Vec<Run<Items<A>>>, NoMemory>
+    ensures { IfOk result (λ list. list.items ≡ singles parts.items) }
+{
+    let mut list = Vec::new(alloc);
+    for part in parts {
+        list.push(single(alloc, part)?)?;
+    }
+    Ok(list)
+}
+
+/// `{}` and `{a, b}`: the union of the parts.
+pub fn set_of(alloc: Global, parts: Vec<Run<Values>>) -> Result<Run<Values>, NoMemory>
+    ensures { IfOk result (λ r. r ≡ united (singles parts.items)) }
+{
+    let parts = single_parts(alloc, parts)?;
+    united(alloc, parts)
+}
+
+// What a value gives to a step: an object its part, and any other value nothing.
+fn step_from(
+    alloc: Global,
+    workbook: &Workbook,
+    worked: &[WorkedCell],
+    way: Way,
+    value: &Value,
+) -> Result<Run<Items<Values>>, NoMemory>
+    ensures { IfOk result (λ r. r ≡ on_object (way_of (scene workbook.now worked.now) way) value.now) }
+{
+    match value {
+        Value::Object(object) => {
+            let part = way_from(alloc, workbook, worked, way, *object)?;
+            single(alloc, part)
+        }
+        Value::Truth(_) | Value::Number(_) | Value::Text(_) => {
+            Ok(given(alloc, Ok(Items::new(alloc))))
+        }
+    }
+}
+
+fn steps_from(
+    alloc: Global,
+    workbook: &Workbook,
+    worked: &[WorkedCell],
+    way: Way,
+    values: &[Value],
+) -> Result<Vec<Run<Items<Values>>>, NoMemory>
+    ensures { IfOk result (λ list. list.items ≡ map (on_object (way_of (scene workbook.now worked.now) way)) values.now) }
+{
+    let mut list = Vec::new(alloc);
+    for value in values {
+        list.push(step_from(alloc, workbook, worked, way, value)?)?;
+    }
+    Ok(list)
+}
+
+/// The values of a set that is known, and none where there is no set.
+pub fn values_of(set: &Run<Values>) -> &[Value]
+    ensures { result.now ≡ values_in set.now.outcome }
+{
+    match &set.outcome {
+        Ok(values) => values.as_slice(),
+        Err(_) => &[],
+    }
+}
+
+/// `e.c` and `e.up`: the union of what each object of a set gives.
+pub fn stepped(
+    alloc: Global,
+    workbook: &Workbook,
+    worked: &[WorkedCell],
+    way: Way,
+    objects: Run<Values>,
+) -> Result<Run<Values>, NoMemory>
+    ensures { IfOk result (λ r. r ≡ and_then objects (step (way_of (scene workbook.now worked.now) way))) }
+{
+    let parts = steps_from(alloc, workbook, worked, way, values_of(&objects))?;
+    let made = united(alloc, parts)?;
+    for_source(alloc, objects, made)
+}
+
+fn truths_of(
+    alloc: Global,
+    place: Place,
+    parts: Vec<Run<Values>>,
+) -> Result<Vec<Run<bool>>, NoMemory>
+    ensures { IfOk result (λ list. list.items ≡ truths_of place parts.items) }
+{
+    let mut list = Vec::new(alloc);
+    for part in parts {
+        list.push(truth(alloc, place, part)?)?;
+    }
+    Ok(list)
+}
+
+// What each value gives: its body, where its condition holds.
+fn turns(
+    alloc: Global,
+    place: Place,
+    pairs: Vec<(Run<Values>, Run<Values>)>,
+) -> Result<Vec<Run<Items<Values>>>, NoMemory>
+    ensures { IfOk result (λ list. list.items ≡ turns place pairs.items) }
+{
+    let mut list = Vec::new(alloc);
+    for pair in pairs {
+        let (condition, body) = pair;
+        let condition = truth(alloc, place, condition)?;
+        list.push(turn(alloc, condition, body)?)?;
+    }
+    Ok(list)
+}
+
+// What each value gives: the number that its body is, where its condition holds.
+fn number_turns(
+    alloc: Global,
+    place: Place,
+    pairs: Vec<(Run<Values>, Run<Values>)>,
+) -> Result<Vec<Run<Items<i64>>>, NoMemory>
+    ensures { IfOk result (λ list. list.items ≡ number_turns place pairs.items) }
+{
+    let mut list = Vec::new(alloc);
+    for pair in pairs {
+        let (condition, body) = pair;
+        let condition = truth(alloc, place, condition)?;
+        let body = number(alloc, place, body)?;
+        list.push(turn(alloc, condition, body)?)?;
+    }
+    Ok(list)
+}
+
+/// `{f : x in s | p}`, from the source and what the condition and the body come to for each of its values.
+pub fn comprehended(
+    alloc: Global,
+    place: Place,
+    source: Run<Values>,
+    pairs: Vec<(Run<Values>, Run<Values>)>,
+) -> Result<Run<Values>, NoMemory>
+    ensures { IfOk result (λ r. r ≡ for_source source (united (turns place pairs.items))) }
+{
+    let turns = turns(alloc, place, pairs)?;
+    let made = united(alloc, turns)?;
+    for_source(alloc, source, made)
+}
+
+// The total so far with one more number.
+fn plus(total: i128, number: &i64) -> i128
+    requires low { neg_ℤ (pos (2 ^ 126)) ≤ℤ total }
+    requires high { total ≤ℤ pos (2 ^ 126) }
+    ensures sum { result ≡ total +ℤ number.now }
+    ensures lowest { (total -ℤ pos (2 ^ 63)) ≤ℤ result }
+    ensures highest { result ≤ℤ (total +ℤ pos (2 ^ 63)) }
+{
+    total + i128::from(*number)
+}
+
+// The exact total of numbers, tested once.
+fn total(alloc: Global, place: Place, numbers: &[i64]) -> Result<Result<Values, Fault>, NoMemory>
+    ensures { IfOk result (λ o. o ≡ fits place (fold ◌+ℤ◌ (pos 0) numbers.now)) }
+{
+    let mut total: i128 = 0;
+    for number in numbers {
+        total = plus(total, number);
+    }
+    if total < i128::from(i64::MIN) || total > i128::from(i64::MAX) {
+        return Ok(Err(Fault::Overflow(place)));
+    }
+    Ok(Ok(alone(alloc, Value::Number(total as i64))?))
+}
+
+fn totalled(
+    alloc: Global,
+    place: Place,
+    parts: Vec<Run<Items<i64>>>,
+) -> Result<Run<Values>, NoMemory>
+    ensures { IfOk result (λ r. r ≡ totalled place parts.items) }
+{
+    let Run { outcome, uses } = all_joined(alloc, parts)?;
+    match outcome {
+        Ok(numbers) => {
+            let outcome = total(alloc, place, numbers.as_slice())?;
+            Ok(Run { outcome, uses })
+        }
+        Err(fault) => Ok(Run {
+            outcome: Err(fault),
+            uses,
+        }),
+    }
+}
+
+/// `sum(f : x in s | p)`, from the source and what the condition and the body come to for each of its values.
+pub fn summed(
+    alloc: Global,
+    place: Place,
+    source: Run<Values>,
+    pairs: Vec<(Run<Values>, Run<Values>)>,
+) -> Result<Run<Values>, NoMemory>
+    ensures { IfOk result (λ r. r ≡ for_source source (totalled place (number_turns place pairs.items))) }
+{
+    let turns = number_turns(alloc, place, pairs)?;
+    let made = totalled(alloc, place, turns)?;
+    for_source(alloc, source, made)
+}
+
+fn either(a: bool, b: bool) -> bool
+    ensures { result ≡ (a || b) }
+{
+    a || b
+}
+
+fn also(a: bool, b: bool) -> bool
+    ensures { result ≡ (a && b) }
+{
+    a && b
+}
+
+// Whether some hold, or all.
+fn answered(quantifier: Quantifier, truths: &[bool]) -> bool
+    ensures { result ≡ answered quantifier truths.now }
+{
+    let mut some = false;
+    let mut all = true;
+    for truth in truths {
+        some = either(some, *truth);
+        all = also(all, *truth);
+    }
+    match quantifier {
+        Quantifier::Any => some,
+        Quantifier::All => all,
+    }
+}
+
+fn quantified_over(
+    alloc: Global,
+    quantifier: Quantifier,
+    parts: Vec<Run<Items<bool>>>,
+) -> Result<Run<Values>, NoMemory>
+    ensures { IfOk result (λ r. r ≡ quantified_over quantifier parts.items) }
+{
+    let Run { outcome, uses } = all_joined(alloc, parts)?;
+    match outcome {
+        Ok(truths) => {
+            let outcome = told(alloc, answered(quantifier, truths.as_slice()))?;
+            Ok(Run { outcome, uses })
+        }
+        Err(fault) => Ok(Run {
+            outcome: Err(fault),
+            uses,
+        }),
+    }
+}
+
+/// `any(x in s | p)`, `all(x in s | p)`, from the source and what the condition comes to for each of its values.
+pub fn quantified(
+    alloc: Global,
+    quantifier: Quantifier,
+    place: Place,
+    source: Run<Values>,
+    conditions: Vec<Run<Values>>,
+) -> Result<Run<Values>, NoMemory>
+    ensures { IfOk result (λ r. r ≡ for_source source (quantified_over quantifier (singles (truths_of place conditions.items)))) }
+{
+    let conditions = truths_of(alloc, place, conditions)?;
+    let parts = single_parts(alloc, conditions)?;
+    let made = quantified_over(alloc, quantifier, parts)?;
+    for_source(alloc, source, made)
 }

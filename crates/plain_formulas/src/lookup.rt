@@ -175,13 +175,19 @@ pub fn way_from(
             let objects = workbook.state.objects.as_slice();
             let set = children(alloc, objects, object, column)?;
             let uses = used(alloc, Use::Read(Item::Extent(object, column)))?;
-            Ok(Run { outcome: Ok(set), uses })
+            Ok(Run {
+                outcome: Ok(set),
+                uses,
+            })
         }
         Way::OfState(column) => {
             let cells = workbook.state.cells.as_slice();
             let set = set_in(alloc, cells, object, column)?;
             let uses = used(alloc, Use::Read(Item::Stored(object, column)))?;
-            Ok(Run { outcome: Ok(set), uses })
+            Ok(Run {
+                outcome: Ok(set),
+                uses,
+            })
         }
         Way::OfFormula(column) => {
             let outcome = outcome_of(alloc, worked, object, column)?;
@@ -191,7 +197,10 @@ pub fn way_from(
         Way::Parent => {
             let set = parent_set(alloc, parent(workbook, object))?;
             let uses = used(alloc, Use::Read(Item::Up(object)))?;
-            Ok(Run { outcome: Ok(set), uses })
+            Ok(Run {
+                outcome: Ok(set),
+                uses,
+            })
         }
     }
 }
@@ -252,5 +261,8 @@ pub fn variable(
     };
     let set = present(alloc, workbook, values)?;
     let uses = reads(alloc, values)?;
-    Ok(Run { outcome: Ok(set), uses })
+    Ok(Run {
+        outcome: Ok(set),
+        uses,
+    })
 }

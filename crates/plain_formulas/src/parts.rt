@@ -3,7 +3,7 @@ ghost use Rattle.std.specs.Prelude.{◌≡◌, ◌++◌, ◌∷◌, [], ℤ, pos
 ghost use Rattle.sheet_meaning.specs.Run.{is_none as stands_for_none, given, outranked, both_outcomes, both, finish, after, the_one, decides, second_after_fault, second_truth, connect, and_then};
 ghost use Rattle.sheet_meaning.specs.Formula.{one, truth, number, text, object_in, single, turn};
 ghost use Rattle.std.specs.List.{filter_map};
-ghost use Rattle.plain_formulas.specs.Forms.{all_joined, singles, turns, truths_of, numbers_of, for_source, followed};
+ghost use Rattle.plain_formulas.specs.Forms.{all_joined, for_source, followed};
 
 use crate::lists::{numbers, objects, texts, truths};
 use sheet_columns::{Connective, Fault, Place, Sequence};
@@ -50,10 +50,8 @@ fn is_none(fault: Fault) -> bool
 {
     match fault {
         Fault::Cycle => true,
-        Fault::NotOne(_, _)
-        | Fault::Overflow(_)
-        | Fault::ZeroDivisor(_)
-        | Fault::TextTooLong(_) => false,
+        Fault::NotOne(_, _) | Fault::Overflow(_) | Fault::ZeroDivisor(_) | Fault::TextTooLong(_) =>
+            false,
     }
 }
 
@@ -249,11 +247,7 @@ fn second_of(parts: Run<(bool, bool)>) -> Run<bool>
     }
 }
 
-fn second_after_fault(
-    alloc: Global,
-    fault: Fault,
-    second: Run<bool>,
-) -> Result<Run<bool>, NoMemory>
+fn second_after_fault(alloc: Global, fault: Fault, second: Run<bool>) -> Result<Run<bool>, NoMemory>
     ensures { IfOk result (λ r. r ≡ second_after_fault fault second) }
 {
     if is_none(fault) {
