@@ -250,13 +250,3 @@ pub fn union_of_all(alloc: Global, sets: &[Values]) -> Result<Values, NoMemory>
     }
     Ok(list)
 }
-
-/// All values, of several lists one after the other: those of the first, then those of the second.
-pub fn both_lists(alloc: Global, first: &[Value], second: &[Value]) -> Result<Values, NoMemory>
-    ensures { IfOk result (λ list. list ≡ first.now ++ second.now) }
-{
-    let mut list = Values::new(alloc);
-    push_copies(&mut list, first)?;
-    push_copies(&mut list, second)?;
-    Ok(list)
-}

@@ -1,0 +1,6 @@
+//! A plain, slow program that works out workbooks, procedures and views as their definitions say, for tests.
+#![tactic(auto)]
+
+mod rounds;
+
+pub use rounds::{CellRun, run_cells, settled, table_after, value_of};
