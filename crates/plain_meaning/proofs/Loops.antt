@@ -1,5 +1,5 @@
 -- The turns of loops over a list.
-use Rattle.std.proofs.Common.{◌≡◌, refl, sym, ap, ◌∙◌, ℕ, ◌+◌, ◌<◌, List, [], ◌∷◌, ◌++◌, length, get_or, take, Option, Some, None}
+use Rattle.std.proofs.Common.{Vec, Global, ◌≡◌, refl, sym, ap, ◌∙◌, ℕ, ◌+◌, ◌<◌, List, [], ◌∷◌, ◌++◌, length, get_or, take, Option, Some, None}
 use Rattle.std.specs.Prelude.{map, IfOk, Result, Ok, Err}
 use Rattle.std.specs.List.{filter_map, cons_option, flat_map}
 use Rattle.std.specs.Option.{option_to_list}
@@ -11,6 +11,10 @@ use Rattle.std.proofs.lemmas.Grind.{flat_map-append}
 pub same_if_ok : {A E : Type 0} (r : Result A E) {x y : A} → x ≡ y → IfOk r (λ a. a ≡ x) → IfOk r (λ a. a ≡ y)
 same_if_ok (Ok a) e h = h ∙ e
 same_if_ok (Err f) e h = tt
+
+pub same_items_if_ok : {A E : Type 0} (r : Result (Vec A Global) E) {xs ys : List A} → xs ≡ ys → IfOk r (λ l. l.items ≡ xs) → IfOk r (λ l. l.items ≡ ys)
+same_items_if_ok (Ok l) e h = h ∙ e
+same_items_if_ok (Err f) e h = tt
 
 pub map_map : {A B C : Type 0} (g : B → C) (f : A → B) (xs : List A) → map g (map f xs) ≡ map (λ x. g (f x)) xs
 map_map g f [] = refl

@@ -60,3 +60,7 @@ settled_value w cells e p v same = ap (λ u. run e u p v) (ap (scene w) same ∙
 -- the root stands under no column
 pub root_above : (nodes : List Node) (c : ℕ) → IsTree nodes → c ≡ 0 → None ≡ above_of nodes c
 root_above nodes c tree e = sym (ap (above_of nodes) e ∙ ap (option_and_then (λ (n : Node). n.above)) tree.first)
+
+-- the formula cells, worked out once more over their meanings
+pub settled_again : (w : Workbook) (cells read : List WorkedCell) → cells ≡ settled_cells w → read ≡ cells → cell_runs w (scene w read) ≡ cell_runs w (settled_world w)
+settled_again w cells read e same = ap (cell_runs w) (ap (scene w) (same ∙ e) ∙ same_world w (table w (rounds w)))
