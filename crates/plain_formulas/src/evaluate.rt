@@ -10,7 +10,7 @@ use crate::forms::{
 use crate::lists::{alone, copied};
 use crate::lookup::{Way, WorkedCell, variable};
 use sheet_columns::{Core, Place};
-use sheet_meaning::{Run, Workbook};
+use sheet_meaning::{Run, State};
 use sheet_values::{NoMemory, Value, Values};
 use std::alloc::Global;
 
@@ -26,20 +26,20 @@ fn bound(alloc: Global, variables: &[Values], value: &Value) -> Result<Vec<Value
     Ok(list)
 }
 
-/// Works out a formula of a workbook, some of whose formula cells are worked out. The place is that of
-/// the faults that arise in it, and the variables go by position.
+/// Works out a formula where the workbook has this state, and some formula cells are worked out. The
+/// place is that of the faults that arise in the formula, and the variables go by position.
 ///
 /// All parts are worked out, also those that are skipped: of these the outcomes and uses are dropped.
 #[cycle(work)]
 pub fn work_out(
     alloc: Global,
     core: &Core,
-    workbook: &Workbook,
+    state: &State,
     worked: &[WorkedCell],
     place: Place,
     variables: &[Values],
 ) -> Result<Run<Values>, NoMemory>
-    ensures { IfOk result (λ r. r ≡ run core.now (scene workbook.now worked.now) place variables.now) }
+    ensures { IfOk result (λ r. r ≡ run core.now (scene state.now worked.now) place variables.now) }
 {
     match core {
         Core::Truth(truth) => known(alloc, Value::Truth(*truth)),
@@ -49,91 +49,91 @@ pub fn work_out(
             known(alloc, Value::Text(text))
         }
         Core::Root => known(alloc, Value::Object(0)),
-        Core::Variable(position) => variable(alloc, workbook, variables, *position),
+        Core::Variable(position) => variable(alloc, state, variables, *position),
         Core::ObjectStep(objects, column) => {
-            let objects = work_out(alloc, objects.get(), workbook, worked, place, variables)?;
-            stepped(alloc, workbook, worked, Way::Children(*column), objects)
+            let objects = work_out(alloc, objects.get(), state, worked, place, variables)?;
+            stepped(alloc, state, worked, Way::Children(*column), objects)
         }
         Core::StateStep(objects, column) => {
-            let objects = work_out(alloc, objects.get(), workbook, worked, place, variables)?;
-            stepped(alloc, workbook, worked, Way::OfState(*column), objects)
+            let objects = work_out(alloc, objects.get(), state, worked, place, variables)?;
+            stepped(alloc, state, worked, Way::OfState(*column), objects)
         }
         Core::FormulaStep(objects, column) => {
-            let objects = work_out(alloc, objects.get(), workbook, worked, place, variables)?;
-            stepped(alloc, workbook, worked, Way::OfFormula(*column), objects)
+            let objects = work_out(alloc, objects.get(), state, worked, place, variables)?;
+            stepped(alloc, state, worked, Way::OfFormula(*column), objects)
         }
         Core::Up(objects) => {
-            let objects = work_out(alloc, objects.get(), workbook, worked, place, variables)?;
-            stepped(alloc, workbook, worked, Way::Parent, objects)
+            let objects = work_out(alloc, objects.get(), state, worked, place, variables)?;
+            stepped(alloc, state, worked, Way::Parent, objects)
         }
         Core::Set(parts) => {
-            let parts = each_part(alloc, parts.as_slice(), workbook, worked, place, variables)?;
+            let parts = each_part(alloc, parts.as_slice(), state, worked, place, variables)?;
             set_of(alloc, parts)
         }
         Core::Combine(operator, left, right) => {
-            let left = work_out(alloc, left.get(), workbook, worked, place, variables)?;
-            let right = work_out(alloc, right.get(), workbook, worked, place, variables)?;
+            let left = work_out(alloc, left.get(), state, worked, place, variables)?;
+            let right = work_out(alloc, right.get(), state, worked, place, variables)?;
             combined(alloc, *operator, left, right)
         }
         Core::Compare(test, left, right) => {
-            let left = work_out(alloc, left.get(), workbook, worked, place, variables)?;
-            let right = work_out(alloc, right.get(), workbook, worked, place, variables)?;
+            let left = work_out(alloc, left.get(), state, worked, place, variables)?;
+            let right = work_out(alloc, right.get(), state, worked, place, variables)?;
             compared(alloc, *test, left, right)
         }
         Core::Order(test, left, right) => {
-            let left = work_out(alloc, left.get(), workbook, worked, place, variables)?;
-            let right = work_out(alloc, right.get(), workbook, worked, place, variables)?;
+            let left = work_out(alloc, left.get(), state, worked, place, variables)?;
+            let right = work_out(alloc, right.get(), state, worked, place, variables)?;
             in_order(alloc, *test, place, left, right)
         }
         Core::Arithmetic(operator, left, right) => {
-            let left = work_out(alloc, left.get(), workbook, worked, place, variables)?;
-            let right = work_out(alloc, right.get(), workbook, worked, place, variables)?;
+            let left = work_out(alloc, left.get(), state, worked, place, variables)?;
+            let right = work_out(alloc, right.get(), state, worked, place, variables)?;
             calculated(alloc, *operator, place, left, right)
         }
         Core::Negate(part) => {
-            let part = work_out(alloc, part.get(), workbook, worked, place, variables)?;
+            let part = work_out(alloc, part.get(), state, worked, place, variables)?;
             negated(alloc, place, part)
         }
         Core::Join(left, right) => {
-            let left = work_out(alloc, left.get(), workbook, worked, place, variables)?;
-            let right = work_out(alloc, right.get(), workbook, worked, place, variables)?;
+            let left = work_out(alloc, left.get(), state, worked, place, variables)?;
+            let right = work_out(alloc, right.get(), state, worked, place, variables)?;
             joined_texts(alloc, place, left, right)
         }
         Core::Not(part) => {
-            let part = work_out(alloc, part.get(), workbook, worked, place, variables)?;
+            let part = work_out(alloc, part.get(), state, worked, place, variables)?;
             denied(alloc, place, part)
         }
         Core::Connect(connective, left, right) => {
-            let left = work_out(alloc, left.get(), workbook, worked, place, variables)?;
-            let right = work_out(alloc, right.get(), workbook, worked, place, variables)?;
+            let left = work_out(alloc, left.get(), state, worked, place, variables)?;
+            let right = work_out(alloc, right.get(), state, worked, place, variables)?;
             connected(alloc, *connective, place, left, right)
         }
         Core::If(condition, left, right) => {
-            let condition = work_out(alloc, condition.get(), workbook, worked, place, variables)?;
-            let left = work_out(alloc, left.get(), workbook, worked, place, variables)?;
-            let right = work_out(alloc, right.get(), workbook, worked, place, variables)?;
+            let condition = work_out(alloc, condition.get(), state, worked, place, variables)?;
+            let left = work_out(alloc, left.get(), state, worked, place, variables)?;
+            let right = work_out(alloc, right.get(), state, worked, place, variables)?;
             chosen(alloc, place, condition, left, right)
         }
         Core::Count(set) => {
-            let set = work_out(alloc, set.get(), workbook, worked, place, variables)?;
+            let set = work_out(alloc, set.get(), state, worked, place, variables)?;
             counted(alloc, set)
         }
         Core::Only(set) => {
-            let set = work_out(alloc, set.get(), workbook, worked, place, variables)?;
+            let set = work_out(alloc, set.get(), state, worked, place, variables)?;
             only(alloc, place, set)
         }
         Core::Extreme(extremum, set) => {
-            let set = work_out(alloc, set.get(), workbook, worked, place, variables)?;
+            let set = work_out(alloc, set.get(), state, worked, place, variables)?;
             extreme_of(alloc, *extremum, place, set)
         }
         Core::Comprehension(body, source, condition) => {
-            let source = work_out(alloc, source.get(), workbook, worked, place, variables)?;
+            let source = work_out(alloc, source.get(), state, worked, place, variables)?;
             let pairs = each_pair(
                 alloc,
                 condition.get(),
                 body.get(),
                 values_of(&source),
-                workbook,
+                state,
                 worked,
                 place,
                 variables,
@@ -141,13 +141,13 @@ pub fn work_out(
             comprehended(alloc, place, source, pairs)
         }
         Core::Sum(body, source, condition) => {
-            let source = work_out(alloc, source.get(), workbook, worked, place, variables)?;
+            let source = work_out(alloc, source.get(), state, worked, place, variables)?;
             let pairs = each_pair(
                 alloc,
                 condition.get(),
                 body.get(),
                 values_of(&source),
-                workbook,
+                state,
                 worked,
                 place,
                 variables,
@@ -155,12 +155,12 @@ pub fn work_out(
             summed(alloc, place, source, pairs)
         }
         Core::Quantify(quantifier, source, condition) => {
-            let source = work_out(alloc, source.get(), workbook, worked, place, variables)?;
+            let source = work_out(alloc, source.get(), state, worked, place, variables)?;
             let conditions = each(
                 alloc,
                 condition.get(),
                 values_of(&source),
-                workbook,
+                state,
                 worked,
                 place,
                 variables,
@@ -175,16 +175,16 @@ pub fn work_out(
 fn each_part(
     alloc: Global,
     parts: &[Core],
-    workbook: &Workbook,
+    state: &State,
     worked: &[WorkedCell],
     place: Place,
     variables: &[Values],
 ) -> Result<Vec<Run<Values>>, NoMemory>
-    ensures { IfOk result (λ list. list.items ≡ map (λ e. run e (scene workbook.now worked.now) place variables.now) parts.now) }
+    ensures { IfOk result (λ list. list.items ≡ map (λ e. run e (scene state.now worked.now) place variables.now) parts.now) }
 {
     let mut list = Vec::new(alloc);
     for part in parts {
-        list.push(work_out(alloc, part, workbook, worked, place, variables)?)?;
+        list.push(work_out(alloc, part, state, worked, place, variables)?)?;
     }
     Ok(list)
 }
@@ -195,17 +195,17 @@ fn each(
     alloc: Global,
     core: &Core,
     values: &[Value],
-    workbook: &Workbook,
+    state: &State,
     worked: &[WorkedCell],
     place: Place,
     variables: &[Values],
 ) -> Result<Vec<Run<Values>>, NoMemory>
-    ensures { IfOk result (λ list. list.items ≡ map (λ x. run core.now (scene workbook.now worked.now) place (bind variables.now x)) values.now) }
+    ensures { IfOk result (λ list. list.items ≡ map (λ x. run core.now (scene state.now worked.now) place (bind variables.now x)) values.now) }
 {
     let mut list = Vec::new(alloc);
     for value in values {
         let bound = bound(alloc, variables, value)?;
-        list.push(work_out(alloc, core, workbook, worked, place, bound.as_slice())?)?;
+        list.push(work_out(alloc, core, state, worked, place, bound.as_slice())?)?;
     }
     Ok(list)
 }
@@ -217,18 +217,18 @@ fn each_pair(
     condition: &Core,
     body: &Core,
     values: &[Value],
-    workbook: &Workbook,
+    state: &State,
     worked: &[WorkedCell],
     place: Place,
     variables: &[Values],
 ) -> Result<Vec<(Run<Values>, Run<Values>)>, NoMemory>
-    ensures { IfOk result (λ list. list.items ≡ map (λ x. (run condition.now (scene workbook.now worked.now) place (bind variables.now x), run body.now (scene workbook.now worked.now) place (bind variables.now x))) values.now) }
+    ensures { IfOk result (λ list. list.items ≡ map (λ x. (run condition.now (scene state.now worked.now) place (bind variables.now x), run body.now (scene state.now worked.now) place (bind variables.now x))) values.now) }
 {
     let mut list = Vec::new(alloc);
     for value in values {
         let bound = bound(alloc, variables, value)?;
-        let holds = work_out(alloc, condition, workbook, worked, place, bound.as_slice())?;
-        let given = work_out(alloc, body, workbook, worked, place, bound.as_slice())?;
+        let holds = work_out(alloc, condition, state, worked, place, bound.as_slice())?;
+        let given = work_out(alloc, body, state, worked, place, bound.as_slice())?;
         list.push((holds, given))?;
     }
     Ok(list)

@@ -16,7 +16,7 @@ use sheet_columns::{
     ArithmeticOperator, Connective, Extremum, Fault, OrderTest, Place, Quantifier, SetOperator,
     SetTest,
 };
-use sheet_meaning::{Run, Workbook};
+use sheet_meaning::{Run, State};
 use sheet_values::{Name, NoMemory, NotOne, Ordered, Value, Values};
 use sqlite_items::Items;
 use std::alloc::Global;
@@ -485,16 +485,16 @@ pub fn set_of(alloc: Global, parts: Vec<Run<Values>>) -> Result<Run<Values>, NoM
 // What a value gives to a step: an object its part, and any other value nothing.
 fn step_from(
     alloc: Global,
-    workbook: &Workbook,
+    state: &State,
     worked: &[WorkedCell],
     way: Way,
     value: &Value,
 ) -> Result<Run<Items<Values>>, NoMemory>
-    ensures { IfOk result (λ r. r ≡ on_object (way_of (scene workbook.now worked.now) way) value.now) }
+    ensures { IfOk result (λ r. r ≡ on_object (way_of (scene state.now worked.now) way) value.now) }
 {
     match value {
         Value::Object(object) => {
-            let part = way_from(alloc, workbook, worked, way, *object)?;
+            let part = way_from(alloc, state, worked, way, *object)?;
             single(alloc, part)
         }
         Value::Truth(_) | Value::Number(_) | Value::Text(_) => {
@@ -505,16 +505,16 @@ fn step_from(
 
 fn steps_from(
     alloc: Global,
-    workbook: &Workbook,
+    state: &State,
     worked: &[WorkedCell],
     way: Way,
     values: &[Value],
 ) -> Result<Vec<Run<Items<Values>>>, NoMemory>
-    ensures { IfOk result (λ list. list.items ≡ map (on_object (way_of (scene workbook.now worked.now) way)) values.now) }
+    ensures { IfOk result (λ list. list.items ≡ map (on_object (way_of (scene state.now worked.now) way)) values.now) }
 {
     let mut list = Vec::new(alloc);
     for value in values {
-        list.push(step_from(alloc, workbook, worked, way, value)?)?;
+        list.push(step_from(alloc, state, worked, way, value)?)?;
     }
     Ok(list)
 }
@@ -532,14 +532,14 @@ pub fn values_of(set: &Run<Values>) -> &[Value]
 /// `e.c` and `e.up`: the union of what each object of a set gives.
 pub fn stepped(
     alloc: Global,
-    workbook: &Workbook,
+    state: &State,
     worked: &[WorkedCell],
     way: Way,
     objects: Run<Values>,
 ) -> Result<Run<Values>, NoMemory>
-    ensures { IfOk result (λ r. r ≡ and_then objects (step (way_of (scene workbook.now worked.now) way))) }
+    ensures { IfOk result (λ r. r ≡ and_then objects (step (way_of (scene state.now worked.now) way))) }
 {
-    let parts = steps_from(alloc, workbook, worked, way, values_of(&objects))?;
+    let parts = steps_from(alloc, state, worked, way, values_of(&objects))?;
     let made = united(alloc, parts)?;
     for_source(alloc, objects, made)
 }

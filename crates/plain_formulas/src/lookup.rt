@@ -1,4 +1,4 @@
-// What a workbook and its worked-out formula cells tell.
+// What a state and its worked-out formula cells tell.
 ghost use Rattle.std.specs.Prelude.{◌≡◌, ◌++◌, ◌∷◌, [], IfOk, OnOk, Ok, is_some, filter, map, slice_index_or};
 ghost use Rattle.sheet_values.specs.declared.value.Value.TheVariants.{Object};
 ghost use Rattle.sheet_meaning.specs.Formula.{is_read, live_reads, variable_read, objects_of, on_object, step};
@@ -8,7 +8,7 @@ ghost use Rattle.plain_formulas.specs.Told.{told, scene, way_of};
 
 use crate::lists::{alone, copied};
 use sheet_columns::{Fault, Item, Sequence};
-use sheet_meaning::{LiveObject, Run, StoredCell, Use, Workbook};
+use sheet_meaning::{LiveObject, Run, State, StoredCell, Use};
 use sheet_values::{NoMemory, Value, Values};
 use std::alloc::Global;
 
@@ -48,20 +48,20 @@ pub fn object_at(objects: &[LiveObject], number: u64) -> Option<LiveObject>
 }
 
 // Whether an object is live.
-fn is_live(workbook: &Workbook, object: u64) -> bool
-    ensures { result ≡ is_some (column_in (object_at workbook.now.state.objects object)) }
+fn is_live(state: &State, object: u64) -> bool
+    ensures { result ≡ is_some (column_in (object_at state.now.objects object)) }
 {
-    match object_at(workbook.state.objects.as_slice(), object) {
+    match object_at(state.objects.as_slice(), object) {
         Some(_) => true,
         None => false,
     }
 }
 
 // The object above an object.
-fn parent(workbook: &Workbook, object: u64) -> Option<u64>
-    ensures { result ≡ parent_in (object_at workbook.now.state.objects object) }
+fn parent(state: &State, object: u64) -> Option<u64>
+    ensures { result ≡ parent_in (object_at state.now.objects object) }
 {
-    match object_at(workbook.state.objects.as_slice(), object) {
+    match object_at(state.objects.as_slice(), object) {
         Some(found) => found.parent,
         None => None,
     }
@@ -163,16 +163,16 @@ fn parent_set(alloc: Global, parent: Option<u64>) -> Result<Values, NoMemory>
 /// What a step from an object gives, and what it uses.
 pub fn way_from(
     alloc: Global,
-    workbook: &Workbook,
+    state: &State,
     worked: &[WorkedCell],
     way: Way,
     object: u64,
 ) -> Result<Run<Values>, NoMemory>
-    ensures { IfOk result (λ r. r ≡ way_of (scene workbook.now worked.now) way object) }
+    ensures { IfOk result (λ r. r ≡ way_of (scene state.now worked.now) way object) }
 {
     match way {
         Way::Children(column) => {
-            let objects = workbook.state.objects.as_slice();
+            let objects = state.objects.as_slice();
             let set = children(alloc, objects, object, column)?;
             let uses = used(alloc, Use::Read(Item::Extent(object, column)))?;
             Ok(Run {
@@ -181,7 +181,7 @@ pub fn way_from(
             })
         }
         Way::OfState(column) => {
-            let cells = workbook.state.cells.as_slice();
+            let cells = state.cells.as_slice();
             let set = set_in(alloc, cells, object, column)?;
             let uses = used(alloc, Use::Read(Item::Stored(object, column)))?;
             Ok(Run {
@@ -195,7 +195,7 @@ pub fn way_from(
             Ok(Run { outcome, uses })
         }
         Way::Parent => {
-            let set = parent_set(alloc, parent(workbook, object))?;
+            let set = parent_set(alloc, parent(state, object))?;
             let uses = used(alloc, Use::Read(Item::Up(object)))?;
             Ok(Run {
                 outcome: Ok(set),
@@ -205,11 +205,11 @@ pub fn way_from(
     }
 }
 
-fn is_present(workbook: &Workbook, value: &Value) -> bool
-    ensures { result ≡ is_read (scene workbook.now []) value.now }
+fn is_present(state: &State, value: &Value) -> bool
+    ensures { result ≡ is_read (scene state.now []) value.now }
 {
     match value {
-        Value::Object(object) => is_live(workbook, *object),
+        Value::Object(object) => is_live(state, *object),
         Value::Truth(_) | Value::Number(_) | Value::Text(_) => true,
     }
 }
@@ -234,12 +234,12 @@ fn reads(alloc: Global, values: &[Value]) -> Result<Sequence<Use>, NoMemory>
     Ok(uses)
 }
 
-fn present(alloc: Global, workbook: &Workbook, values: &[Value]) -> Result<Values, NoMemory>
-    ensures { IfOk result (λ list. list ≡ filter (is_read (scene workbook.now [])) values.now) }
+fn present(alloc: Global, state: &State, values: &[Value]) -> Result<Values, NoMemory>
+    ensures { IfOk result (λ list. list ≡ filter (is_read (scene state.now [])) values.now) }
 {
     let mut list = Values::new(alloc);
     for value in values {
-        if is_present(workbook, value) {
+        if is_present(state, value) {
             list.push(value.copy()?)?;
         }
     }
@@ -249,17 +249,17 @@ fn present(alloc: Global, workbook: &Workbook, values: &[Value]) -> Result<Value
 /// What the variable at a position gives, of objects only the live ones.
 pub fn variable(
     alloc: Global,
-    workbook: &Workbook,
+    state: &State,
     variables: &[Values],
     position: u32,
 ) -> Result<Run<Values>, NoMemory>
-    ensures { IfOk result (λ r. r ≡ variable_read (scene workbook.now []) (slice_index_or variables.now position [])) }
+    ensures { IfOk result (λ r. r ≡ variable_read (scene state.now []) (slice_index_or variables.now position [])) }
 {
     let values = match variables.get(position as usize) {
         Some(values) => values.as_slice(),
         None => &[],
     };
-    let set = present(alloc, workbook, values)?;
+    let set = present(alloc, state, values)?;
     let uses = reads(alloc, values)?;
     Ok(Run {
         outcome: Ok(set),

@@ -4,13 +4,14 @@ ghost use Rattle.std.specs.List.{filter_map, flat_map};
 ghost use Rattle.sheet_values.specs.Sorted.{insert};
 ghost use Rattle.sheet_columns.specs.ItemOrder.{item_cmp};
 ghost use Rattle.sheet_meaning.specs.Rounds.{item_in as item_told, cell_in as cell_told};
+ghost use Rattle.sheet_meaning.specs.Statements.{workbook};
 ghost use Rattle.sheet_meaning.specs.Support.{has_cell, with_cell, with_cells, in_order, reached, support};
 ghost use Rattle.plain_meaning.specs.Tables.{settled_runs};
 ghost use Rattle.plain_meaning.specs.Reached.{uses_in, cells_in, items_in, spread_by, reached_by, support_by};
 
 use crate::rounds::{CellRun, run_cells, settled};
 use sheet_columns::{Item, Items};
-use sheet_meaning::{Use, Workbook};
+use sheet_meaning::{Schema, State, Use};
 use sheet_values::NoMemory;
 use std::alloc::Global;
 
@@ -176,25 +177,35 @@ pub fn support_by(alloc: Global, runs: &[CellRun], uses: &[Use]) -> Result<Items
 }
 
 /// Each formula cell, worked out once over the meanings of all.
-pub fn settled_runs(alloc: Global, workbook: &Workbook) -> Result<Vec<CellRun>, NoMemory>
-    ensures { IfOk result (λ list. list.items ≡ settled_runs workbook.now) }
+pub fn settled_runs(alloc: Global, schema: &Schema, state: &State) -> Result<Vec<CellRun>, NoMemory>
+    ensures { IfOk result (λ list. list.items ≡ settled_runs (workbook schema.now state.now)) }
 {
-    let cells = settled(alloc, workbook)?;
-    run_cells(alloc, workbook, cells.as_slice())
+    let cells = settled(alloc, schema, state)?;
+    run_cells(alloc, schema, state, cells.as_slice())
 }
 
 /// The formula cells that are reached from what was used.
-pub fn reached(alloc: Global, workbook: &Workbook, uses: &[Use]) -> Result<Vec<Cell>, NoMemory>
-    ensures { IfOk result (λ list. list.items ≡ reached workbook.now uses.now) }
+pub fn reached(
+    alloc: Global,
+    schema: &Schema,
+    state: &State,
+    uses: &[Use],
+) -> Result<Vec<Cell>, NoMemory>
+    ensures { IfOk result (λ list. list.items ≡ reached (workbook schema.now state.now) uses.now) }
 {
-    let runs = settled_runs(alloc, workbook)?;
+    let runs = settled_runs(alloc, schema, state)?;
     reached_by(alloc, runs.as_slice(), uses)
 }
 
 /// The support of what was used: the items that it rests on.
-pub fn support(alloc: Global, workbook: &Workbook, uses: &[Use]) -> Result<Items, NoMemory>
-    ensures { IfOk result (λ set. set ≡ support workbook.now uses.now) }
+pub fn support(
+    alloc: Global,
+    schema: &Schema,
+    state: &State,
+    uses: &[Use],
+) -> Result<Items, NoMemory>
+    ensures { IfOk result (λ set. set ≡ support (workbook schema.now state.now) uses.now) }
 {
-    let runs = settled_runs(alloc, workbook)?;
+    let runs = settled_runs(alloc, schema, state)?;
     support_by(alloc, runs.as_slice(), uses)
 }

@@ -5,13 +5,14 @@ ghost use Rattle.std.specs.List.{filter_map, flat_map};
 ghost use Rattle.sheet_values.specs.declared.value.Value.TheVariants.{Object};
 ghost use Rattle.sheet_columns.specs.Tree.{above_of, is_number};
 ghost use Rattle.sheet_meaning.specs.Workbook.{formula_cell};
+ghost use Rattle.sheet_meaning.specs.Statements.{workbook};
 ghost use Rattle.sheet_meaning.specs.Rounds.{table, settled_run};
 ghost use Rattle.plain_formulas.specs.Told.{scene};
 ghost use Rattle.plain_meaning.specs.Tables.{cells_with, settled_cells, cells_under, cell_run, cell_runs, worked, unworked};
 
 use plain_formulas::{WorkedCell, alone, work_out};
 use sheet_columns::{Columns, Core, Fault, Place};
-use sheet_meaning::{ColumnFormula, LiveObject, Run, Workbook};
+use sheet_meaning::{ColumnFormula, LiveObject, Run, Schema, State};
 use sheet_values::{NoMemory, Value, Values};
 use std::alloc::Global;
 
@@ -58,22 +59,23 @@ fn this(alloc: Global, object: u64) -> Result<Vec<Values>, NoMemory>
 // Adds the formula cell of an object in a formula column, where the column stands under the object's column.
 fn push_cell(
     alloc: Global,
-    workbook: &Workbook,
+    schema: &Schema,
+    state: &State,
     cells: &[WorkedCell],
     object: &LiveObject,
     formula: &ColumnFormula,
     list: &mut Vec<CellRun>,
 ) -> Result<(), NoMemory>
-    ensures { OnOk result (list.new.items ≡ list.old.items ++ map (cell_run (scene workbook.now cells.now)) (option_to_list (formula_cell workbook.now.schema object.now.number object.now.column formula.now))) }
+    ensures { OnOk result (list.new.items ≡ list.old.items ++ map (cell_run (scene state.now cells.now)) (option_to_list (formula_cell schema.now object.now.number object.now.column formula.now))) }
 {
-    let above = column_above(&workbook.schema.columns, formula.column);
+    let above = column_above(&schema.columns, formula.column);
     if is_column(object.column, above) {
         let variables = this(alloc, object.number)?;
         let place = Place::Cell(object.number, formula.column);
         let run = work_out(
             alloc,
             &formula.core,
-            workbook,
+            state,
             cells,
             place,
             variables.as_slice(),
@@ -90,16 +92,17 @@ fn push_cell(
 // Adds the formula cells of an object in some formula columns.
 fn push_cells(
     alloc: Global,
-    workbook: &Workbook,
+    schema: &Schema,
+    state: &State,
     cells: &[WorkedCell],
     object: &LiveObject,
     formulas: &[ColumnFormula],
     list: &mut Vec<CellRun>,
 ) -> Result<(), NoMemory>
-    ensures { OnOk result (list.new.items ≡ list.old.items ++ map (cell_run (scene workbook.now cells.now)) (filter_map (formula_cell workbook.now.schema object.now.number object.now.column) formulas.now)) }
+    ensures { OnOk result (list.new.items ≡ list.old.items ++ map (cell_run (scene state.now cells.now)) (filter_map (formula_cell schema.now object.now.number object.now.column) formulas.now)) }
 {
     for formula in formulas {
-        push_cell(alloc, workbook, cells, object, formula, list)?;
+        push_cell(alloc, schema, state, cells, object, formula, list)?;
     }
     Ok(())
 }
@@ -107,17 +110,18 @@ fn push_cells(
 // The formula cells of some objects, each worked out once.
 fn runs_of(
     alloc: Global,
-    workbook: &Workbook,
+    schema: &Schema,
+    state: &State,
     cells: &[WorkedCell],
     objects: &[LiveObject],
 ) -> Result<Vec<CellRun>, NoMemory>
-    ensures { IfOk result (λ list. list.items ≡ map (cell_run (scene workbook.now cells.now)) (flat_map (cells_under workbook.now.schema) objects.now)) }
+    ensures { IfOk result (λ list. list.items ≡ map (cell_run (scene state.now cells.now)) (flat_map (cells_under schema.now) objects.now)) }
 {
-    let formulas = workbook.schema.formulas.as_slice();
+    let formulas = schema.formulas.as_slice();
     let mut list = Vec::new(alloc);
     let mut rest = objects;
     while let Some((object, more)) = rest.split_first() {
-        push_cells(alloc, workbook, cells, object, formulas, &mut list)?;
+        push_cells(alloc, schema, state, cells, object, formulas, &mut list)?;
         rest = more;
     }
     Ok(list)
@@ -126,12 +130,13 @@ fn runs_of(
 /// Each formula cell, worked out once over the outcomes that the cells have so far.
 pub fn run_cells(
     alloc: Global,
-    workbook: &Workbook,
+    schema: &Schema,
+    state: &State,
     cells: &[WorkedCell],
 ) -> Result<Vec<CellRun>, NoMemory>
-    ensures { IfOk result (λ list. list.items ≡ cell_runs workbook.now (scene workbook.now cells.now)) }
+    ensures { IfOk result (λ list. list.items ≡ cell_runs (workbook schema.now state.now) (scene state.now cells.now)) }
 {
-    runs_of(alloc, workbook, cells, workbook.state.objects.as_slice())
+    runs_of(alloc, schema, state, cells, state.objects.as_slice())
 }
 
 // The cells without outcomes.
@@ -173,38 +178,40 @@ fn worked_cells(alloc: Global, runs: Vec<CellRun>) -> Result<Vec<WorkedCell>, No
 /// The formula cells after so many rounds; at first none has an outcome.
 pub fn table_after(
     alloc: Global,
-    workbook: &Workbook,
+    schema: &Schema,
+    state: &State,
     count: usize,
 ) -> Result<Vec<WorkedCell>, NoMemory>
-    ensures { IfOk result (λ list. list.items ≡ cells_with workbook.now (table workbook.now count)) }
+    ensures { IfOk result (λ list. list.items ≡ cells_with (workbook schema.now state.now) (table (workbook schema.now state.now) count)) }
 {
-    let mut cells = unworked_cells(alloc, run_cells(alloc, workbook, &[])?)?;
+    let mut cells = unworked_cells(alloc, run_cells(alloc, schema, state, &[])?)?;
     for round in 0..count {
-        let runs = run_cells(alloc, workbook, cells.as_slice())?;
+        let runs = run_cells(alloc, schema, state, cells.as_slice())?;
         cells = worked_cells(alloc, runs)?;
     }
     Ok(cells)
 }
 
 /// The formula cells with their meanings: after as many rounds as there are formula cells.
-pub fn settled(alloc: Global, workbook: &Workbook) -> Result<Vec<WorkedCell>, NoMemory>
-    ensures { IfOk result (λ list. list.items ≡ settled_cells workbook.now) }
+pub fn settled(alloc: Global, schema: &Schema, state: &State) -> Result<Vec<WorkedCell>, NoMemory>
+    ensures { IfOk result (λ list. list.items ≡ settled_cells (workbook schema.now state.now)) }
 {
-    let runs = run_cells(alloc, workbook, &[])?;
-    table_after(alloc, workbook, runs.len())
+    let runs = run_cells(alloc, schema, state, &[])?;
+    table_after(alloc, schema, state, runs.len())
 }
 
 /// A formula, worked out over the meanings of the formula cells, which are given.
 pub fn value_of(
     alloc: Global,
-    workbook: &Workbook,
+    schema: &Schema,
+    state: &State,
     cells: &[WorkedCell],
     core: &Core,
     place: Place,
     variables: &[Values],
 ) -> Result<Run<Values>, NoMemory>
-    requires { cells.now ≡ settled_cells workbook.now }
-    ensures { IfOk result (λ r. r ≡ settled_run workbook.now core.now place variables.now) }
+    requires { cells.now ≡ settled_cells (workbook schema.now state.now) }
+    ensures { IfOk result (λ r. r ≡ settled_run (workbook schema.now state.now) core.now place variables.now) }
 {
-    work_out(alloc, core, workbook, cells, place, variables)
+    work_out(alloc, core, state, cells, place, variables)
 }

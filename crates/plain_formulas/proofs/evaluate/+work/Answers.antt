@@ -10,7 +10,7 @@ use Rattle.plain_formulas.proofs.evaluate.+work.Goals as goal
 
 pub work_out-returns-in_ok-objects-in-ObjectStep : goal.work_out-returns-in_ok-objects-in-ObjectStep
 work_out-returns-in_ok-objects-in-ObjectStep t c =
-    let w = scene c.args.workbook.now c.args.worked.now in
+    let w = scene c.args.state.now c.args.worked.now in
     let p = c.args.place in
     let v = c.args.variables.now in
     same_if_ok c.stepped.result
@@ -19,7 +19,7 @@ work_out-returns-in_ok-objects-in-ObjectStep t c =
 
 pub work_out-returns-in_ok-objects-in-StateStep : goal.work_out-returns-in_ok-objects-in-StateStep
 work_out-returns-in_ok-objects-in-StateStep t c =
-    let w = scene c.args.workbook.now c.args.worked.now in
+    let w = scene c.args.state.now c.args.worked.now in
     let p = c.args.place in
     let v = c.args.variables.now in
     same_if_ok c.stepped-in-StateStep.result
@@ -28,7 +28,7 @@ work_out-returns-in_ok-objects-in-StateStep t c =
 
 pub work_out-returns-in_ok-objects-in-FormulaStep : goal.work_out-returns-in_ok-objects-in-FormulaStep
 work_out-returns-in_ok-objects-in-FormulaStep t c =
-    let w = scene c.args.workbook.now c.args.worked.now in
+    let w = scene c.args.state.now c.args.worked.now in
     let p = c.args.place in
     let v = c.args.variables.now in
     same_if_ok c.stepped-in-FormulaStep.result
@@ -37,7 +37,7 @@ work_out-returns-in_ok-objects-in-FormulaStep t c =
 
 pub work_out-returns-in_ok-objects-in-Up : goal.work_out-returns-in_ok-objects-in-Up
 work_out-returns-in_ok-objects-in-Up t c =
-    let w = scene c.args.workbook.now c.args.worked.now in
+    let w = scene c.args.state.now c.args.worked.now in
     let p = c.args.place in
     let v = c.args.variables.now in
     same_if_ok c.stepped-in-Up.result
@@ -46,7 +46,7 @@ work_out-returns-in_ok-objects-in-Up t c =
 
 pub work_out-returns-in_ok-parts-in-Set : goal.work_out-returns-in_ok-parts-in-Set
 work_out-returns-in_ok-parts-in-Set t c =
-    let w = scene c.args.workbook.now c.args.worked.now in
+    let w = scene c.args.state.now c.args.worked.now in
     let p = c.args.place in
     let v = c.args.variables.now in
     same_if_ok c.set_of.result
@@ -55,7 +55,7 @@ work_out-returns-in_ok-parts-in-Set t c =
 
 pub work_out-returns-in_ok-right-in-Combine : goal.work_out-returns-in_ok-right-in-Combine
 work_out-returns-in_ok-right-in-Combine t c =
-    let w = scene c.args.workbook.now c.args.worked.now in
+    let w = scene c.args.state.now c.args.worked.now in
     let p = c.args.place in
     let v = c.args.variables.now in
     same_if_ok c.combined.result
@@ -64,7 +64,7 @@ work_out-returns-in_ok-right-in-Combine t c =
 
 pub work_out-returns-in_ok-right-in-Compare : goal.work_out-returns-in_ok-right-in-Compare
 work_out-returns-in_ok-right-in-Compare t c =
-    let w = scene c.args.workbook.now c.args.worked.now in
+    let w = scene c.args.state.now c.args.worked.now in
     let p = c.args.place in
     let v = c.args.variables.now in
     same_if_ok c.compared.result
@@ -73,7 +73,7 @@ work_out-returns-in_ok-right-in-Compare t c =
 
 pub work_out-returns-in_ok-right-in-Order : goal.work_out-returns-in_ok-right-in-Order
 work_out-returns-in_ok-right-in-Order t c =
-    let w = scene c.args.workbook.now c.args.worked.now in
+    let w = scene c.args.state.now c.args.worked.now in
     let p = c.args.place in
     let v = c.args.variables.now in
     same_if_ok c.in_order.result
@@ -82,7 +82,7 @@ work_out-returns-in_ok-right-in-Order t c =
 
 pub work_out-returns-in_ok-right-in-Arithmetic : goal.work_out-returns-in_ok-right-in-Arithmetic
 work_out-returns-in_ok-right-in-Arithmetic t c =
-    let w = scene c.args.workbook.now c.args.worked.now in
+    let w = scene c.args.state.now c.args.worked.now in
     let p = c.args.place in
     let v = c.args.variables.now in
     same_if_ok c.calculated.result
@@ -91,7 +91,7 @@ work_out-returns-in_ok-right-in-Arithmetic t c =
 
 pub work_out-returns-in_ok-part-in-Negate : goal.work_out-returns-in_ok-part-in-Negate
 work_out-returns-in_ok-part-in-Negate t c =
-    let w = scene c.args.workbook.now c.args.worked.now in
+    let w = scene c.args.state.now c.args.worked.now in
     let p = c.args.place in
     let v = c.args.variables.now in
     same_if_ok c.negated.result
@@ -100,7 +100,7 @@ work_out-returns-in_ok-part-in-Negate t c =
 
 pub work_out-returns-in_ok-right-in-Join : goal.work_out-returns-in_ok-right-in-Join
 work_out-returns-in_ok-right-in-Join t c =
-    let w = scene c.args.workbook.now c.args.worked.now in
+    let w = scene c.args.state.now c.args.worked.now in
     let p = c.args.place in
     let v = c.args.variables.now in
     same_if_ok c.joined_texts.result
@@ -109,7 +109,7 @@ work_out-returns-in_ok-right-in-Join t c =
 
 pub work_out-returns-in_ok-part-in-Not : goal.work_out-returns-in_ok-part-in-Not
 work_out-returns-in_ok-part-in-Not t c =
-    let w = scene c.args.workbook.now c.args.worked.now in
+    let w = scene c.args.state.now c.args.worked.now in
     let p = c.args.place in
     let v = c.args.variables.now in
     same_if_ok c.denied.result
@@ -118,7 +118,7 @@ work_out-returns-in_ok-part-in-Not t c =
 
 pub work_out-returns-in_ok-right-in-Connect : goal.work_out-returns-in_ok-right-in-Connect
 work_out-returns-in_ok-right-in-Connect t c =
-    let w = scene c.args.workbook.now c.args.worked.now in
+    let w = scene c.args.state.now c.args.worked.now in
     let p = c.args.place in
     let v = c.args.variables.now in
     same_if_ok c.connected.result
@@ -127,7 +127,7 @@ work_out-returns-in_ok-right-in-Connect t c =
 
 pub work_out-returns-in_ok-right-in-If : goal.work_out-returns-in_ok-right-in-If
 work_out-returns-in_ok-right-in-If t c =
-    let w = scene c.args.workbook.now c.args.worked.now in
+    let w = scene c.args.state.now c.args.worked.now in
     let p = c.args.place in
     let v = c.args.variables.now in
     same_if_ok c.chosen.result
@@ -136,7 +136,7 @@ work_out-returns-in_ok-right-in-If t c =
 
 pub work_out-returns-in_ok-set-in-Count : goal.work_out-returns-in_ok-set-in-Count
 work_out-returns-in_ok-set-in-Count t c =
-    let w = scene c.args.workbook.now c.args.worked.now in
+    let w = scene c.args.state.now c.args.worked.now in
     let p = c.args.place in
     let v = c.args.variables.now in
     same_if_ok c.counted.result
@@ -145,7 +145,7 @@ work_out-returns-in_ok-set-in-Count t c =
 
 pub work_out-returns-in_ok-set-in-Only : goal.work_out-returns-in_ok-set-in-Only
 work_out-returns-in_ok-set-in-Only t c =
-    let w = scene c.args.workbook.now c.args.worked.now in
+    let w = scene c.args.state.now c.args.worked.now in
     let p = c.args.place in
     let v = c.args.variables.now in
     same_if_ok c.only.result
@@ -154,7 +154,7 @@ work_out-returns-in_ok-set-in-Only t c =
 
 pub work_out-returns-in_ok-set-in-Extreme : goal.work_out-returns-in_ok-set-in-Extreme
 work_out-returns-in_ok-set-in-Extreme t c =
-    let w = scene c.args.workbook.now c.args.worked.now in
+    let w = scene c.args.state.now c.args.worked.now in
     let p = c.args.place in
     let v = c.args.variables.now in
     same_if_ok c.extreme_of.result
@@ -163,7 +163,7 @@ work_out-returns-in_ok-set-in-Extreme t c =
 
 pub work_out-returns-in_ok-pairs-in-Comprehension : goal.work_out-returns-in_ok-pairs-in-Comprehension
 work_out-returns-in_ok-pairs-in-Comprehension t c =
-    let w = scene c.args.workbook.now c.args.worked.now in
+    let w = scene c.args.state.now c.args.worked.now in
     let p = c.args.place in
     let v = c.args.variables.now in
     same_if_ok c.comprehended.result
@@ -173,7 +173,7 @@ work_out-returns-in_ok-pairs-in-Comprehension t c =
 
 pub work_out-returns-in_ok-pairs-in-Sum : goal.work_out-returns-in_ok-pairs-in-Sum
 work_out-returns-in_ok-pairs-in-Sum t c =
-    let w = scene c.args.workbook.now c.args.worked.now in
+    let w = scene c.args.state.now c.args.worked.now in
     let p = c.args.place in
     let v = c.args.variables.now in
     same_if_ok c.summed.result
@@ -183,7 +183,7 @@ work_out-returns-in_ok-pairs-in-Sum t c =
 
 pub work_out-returns-in_ok-conditions-in-Quantify : goal.work_out-returns-in_ok-conditions-in-Quantify
 work_out-returns-in_ok-conditions-in-Quantify t c =
-    let w = scene c.args.workbook.now c.args.worked.now in
+    let w = scene c.args.state.now c.args.worked.now in
     let p = c.args.place in
     let v = c.args.variables.now in
     same_if_ok c.quantified.result

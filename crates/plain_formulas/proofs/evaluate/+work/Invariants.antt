@@ -18,10 +18,10 @@ abbrev pub decreases-each_pair : goal.decreases-each_pair
 decreases-each_pair l = 2 * max (size-Core l.condition.now) (size-Core l.body.now) + 1
 
 abbrev pub invariant-each_part-loop-part : goal.invariant-each_part-loop-part
-invariant-each_part-loop-part l = l.list.items ≡ map (λ e. run e (scene l.workbook l.worked) l.place l.variables) (take l.part-index l.parts)
+invariant-each_part-loop-part l = l.list.items ≡ map (λ e. run e (scene l.state l.worked) l.place l.variables) (take l.part-index l.parts)
 
 abbrev pub invariant-each-loop-value : goal.invariant-each-loop-value
-invariant-each-loop-value l = l.list.items ≡ map (λ x. run l.core (scene l.workbook l.worked) l.place (bind l.variables x)) (take l.value-index l.values)
+invariant-each-loop-value l = l.list.items ≡ map (λ x. run l.core (scene l.state l.worked) l.place (bind l.variables x)) (take l.value-index l.values)
 
 abbrev pub invariant-each_pair-loop-value : goal.invariant-each_pair-loop-value
-invariant-each_pair-loop-value l = l.list.items ≡ map (λ x. (run l.condition (scene l.workbook l.worked) l.place (bind l.variables x), run l.body (scene l.workbook l.worked) l.place (bind l.variables x))) (take l.value-index l.values)
+invariant-each_pair-loop-value l = l.list.items ≡ map (λ x. (run l.condition (scene l.state l.worked) l.place (bind l.variables x), run l.body (scene l.state l.worked) l.place (bind l.variables x))) (take l.value-index l.values)

@@ -5,4 +5,4 @@ use Rattle.plain_formulas.specs.Told.{scene}
 use Rattle.plain_formulas.proofs.lookup.present.Given as goal
 
 abbrev pub invariant-loop-value : goal.invariant-loop-value
-invariant-loop-value l = l.list ≡ filter (is_read (scene l.workbook [])) (take l.value-index l.values)
+invariant-loop-value l = l.list ≡ filter (is_read (scene l.state [])) (take l.value-index l.values)

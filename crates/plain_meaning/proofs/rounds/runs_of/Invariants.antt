@@ -10,5 +10,5 @@ decreases-loop-object l = length l.rest
 
 abbrev pub invariant-loop-object : goal.invariant-loop-object
 invariant-loop-object l =
-    l.list.items ++ map (cell_run (scene l.workbook l.cells)) (flat_map (cells_under l.workbook.schema) l.rest)
-    ≡ map (cell_run (scene l.workbook l.cells)) (flat_map (cells_under l.workbook.schema) l.objects)
+    l.list.items ++ map (cell_run (scene l.state l.cells)) (flat_map (cells_under l.schema) l.rest)
+    ≡ map (cell_run (scene l.state l.cells)) (flat_map (cells_under l.schema) l.objects)
