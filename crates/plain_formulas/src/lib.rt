@@ -9,6 +9,6 @@ mod parts;
 
 pub use evaluate::work_out;
 pub use forms::values_of;
-pub use lists::{alone, combine, copied, objects};
-pub use lookup::{WorkedCell, object_at, set_in};
+pub use lists::{alone, combine, compare, copied, objects};
+pub use lookup::{WorkedCell, children, object_at, parent, set_in};
 pub use parts::{appended, both, object, truth};

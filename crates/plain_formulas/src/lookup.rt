@@ -57,8 +57,8 @@ fn is_live(state: &State, object: u64) -> bool
     }
 }
 
-// The object above an object.
-fn parent(state: &State, object: u64) -> Option<u64>
+/// The object above an object.
+pub fn parent(state: &State, object: u64) -> Option<u64>
     ensures { result ≡ parent_in (object_at state.now.objects object) }
 {
     match object_at(state.objects.as_slice(), object) {
@@ -82,8 +82,8 @@ fn is_under(parent: u64, column: u32, object: &LiveObject) -> bool
     object.column == column && is_at(parent, object.parent)
 }
 
-// The objects of a column whose parent is an object.
-fn children(
+/// The objects of a column whose parent is an object.
+pub fn children(
     alloc: Global,
     objects: &[LiveObject],
     parent: u64,

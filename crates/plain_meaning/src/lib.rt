@@ -1,8 +1,11 @@
 //! A plain, slow program that works out workbooks, procedures and views as their definitions say, for tests.
 #![tactic(auto)]
 
+mod changes;
+mod kept;
 mod reaching;
 mod rounds;
+
 
 pub use reaching::{Cell, reached, support};
 pub use rounds::{CellRun, run_cells, settled, table_after, value_of};

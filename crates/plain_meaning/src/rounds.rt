@@ -24,8 +24,8 @@ pub struct CellRun {
     pub run: Run<Values>,
 }
 
-// The column that a column stands directly under.
-fn column_above(columns: &Columns, column: u32) -> Option<u32>
+/// The column that a column stands directly under.
+pub fn column_above(columns: &Columns, column: u32) -> Option<u32>
     ensures { result ≡ above_of columns.now column }
 {
     let count = columns.count();
@@ -38,7 +38,7 @@ fn column_above(columns: &Columns, column: u32) -> Option<u32>
     Some(columns.above(column))
 }
 
-fn is_column(column: u32, found: Option<u32>) -> bool
+pub fn is_column(column: u32, found: Option<u32>) -> bool
     ensures { result ≡ is_number column found }
 {
     match found {
