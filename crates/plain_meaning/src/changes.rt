@@ -216,9 +216,12 @@ pub fn with_object(
     ensures { IfOk result (λ next. next ≡ with_object schema.now state.now column parent) }
 {
     let columns = state_columns(alloc, &schema.columns, column)?;
-    let cells = copied_cells(alloc, state.cells.as_slice())?;
-    let cells = push_new_cells(alloc, cells, state.next, columns.as_slice())?;
-    let mut objects = copied_objects(alloc, state.objects.as_slice())?;
+    let under = columns.as_slice();
+    let stored = state.cells.as_slice();
+    let old = copied_cells(alloc, stored)?;
+    let cells = push_new_cells(alloc, old, state.next, under)?;
+    let all = state.objects.as_slice();
+    let mut objects = copied_objects(alloc, all)?;
     objects.push(LiveObject {
         number: state.next,
         column,
@@ -330,10 +333,15 @@ fn objects_without(
 pub fn without_object(alloc: Global, state: &State, object: u64) -> Result<State, NoMemory>
     ensures { IfOk result (λ next. next ≡ without_object state.now object) }
 {
-    let gone = family(alloc, state.objects.as_slice(), object)?;
+    let all = state.objects.as_slice();
+    let gone = family(alloc, all, object)?;
+    let numbers = gone.as_slice();
+    let objects = objects_without(alloc, numbers, all)?;
+    let stored = state.cells.as_slice();
+    let cells = cells_without(alloc, numbers, stored)?;
     Ok(State {
-        objects: objects_without(alloc, gone.as_slice(), state.objects.as_slice())?,
-        cells: cells_without(alloc, gone.as_slice(), state.cells.as_slice())?,
+        objects,
+        cells,
         next: state.next,
     })
 }
