@@ -8,12 +8,12 @@ use Rattle.sheet_columns.specs.declared.tree.Node.{Node}
 use Rattle.sheet_columns.specs.Tree.{column_of, above_of, is_number}
 use Rattle.sheet_meaning.specs.WellFormed as meant
 use Rattle.plain_meaning.specs.declared.changes.StateColumn.{StateColumn}
-use Rattle.sheet_meaning.specs.Changes.{with_object, has_number, family, without, without_object}
+use Rattle.sheet_meaning.specs.Changes.{has_number, family, without, without_object}
 use Rattle.sheet_meaning.specs.declared.workbook.Schema.{Schema}
 use Rattle.sheet_meaning.specs.declared.workbook.State.{State}
 use Rattle.sheet_meaning.specs.declared.workbook.LiveObject.{LiveObject}
 use Rattle.sheet_meaning.specs.declared.workbook.StoredCell.{StoredCell}
-use Rattle.plain_meaning.specs.Columns.{brief, column_at, columns_under, new_cell, cells_left}
+use Rattle.plain_meaning.specs.Columns.{brief, column_at, columns_under, new_cell, cells_left, made_with}
 use Rattle.plain_meaning.proofs.Loops.{map_map}
 
 abbrev pub state_column : ℕ → ℕ × Node → Option meant.StateColumn
@@ -51,11 +51,11 @@ columns_step nodes c k ys zs whole lt so_far more =
     ∙ so_far
 
 -- a state with a new object
-pub object_made : (schema : Schema) (s : State) (c parent : ℕ) (objects copy all : List LiveObject) (cells old stored : List StoredCell) (under columns : List StateColumn) → under ≡ columns → columns ≡ columns_under schema.columns c → stored ≡ s.cells → old ≡ stored → cells ≡ old ++ map (new_cell s.next) under → all ≡ s.objects → copy ≡ all → objects ≡ copy ++ record { number = s.next; column = c; parent = Some parent } ∷ [] → record { objects = objects; cells = cells; next = s.next + 1 } ≡ with_object schema s c parent
-object_made schema s c parent objects copy all cells old stored under columns same these sc os made so copied new =
-    ap (λ (l : List LiveObject). let t : State = record { objects = l; cells = cells; next = s.next + 1 } in t)
+pub object_made : (schema : Schema) (s : State) (c parent next : ℕ) (objects copy all : List LiveObject) (cells old stored : List StoredCell) (under columns : List StateColumn) → under ≡ columns → columns ≡ columns_under schema.columns c → stored ≡ s.cells → old ≡ stored → cells ≡ old ++ map (new_cell s.next) under → all ≡ s.objects → copy ≡ all → objects ≡ copy ++ record { number = s.next; column = c; parent = Some parent } ∷ [] → record { objects = objects; cells = cells; next = next } ≡ made_with schema s c parent next
+object_made schema s c parent next objects copy all cells old stored under columns same these sc os made so copied new =
+    ap (λ (l : List LiveObject). let t : State = record { objects = l; cells = cells; next = next } in t)
     (new ∙ ap (λ (l : List LiveObject). l ++ record { number = s.next; column = c; parent = Some parent } ∷ []) (copied ∙ so))
-    ∙ ap (λ (l : List StoredCell). let t : State = record { objects = s.objects ++ record { number = s.next; column = c; parent = Some parent } ∷ []; cells = l; next = s.next + 1 } in t)
+    ∙ ap (λ (l : List StoredCell). let t : State = record { objects = s.objects ++ record { number = s.next; column = c; parent = Some parent } ∷ []; cells = l; next = next } in t)
     (made
     ∙ ap (λ l. l ++ map (new_cell s.next) under) (os ∙ sc)
     ∙ ap (λ l. s.cells ++ map (new_cell s.next) l) (same ∙ these)

@@ -2,3 +2,4 @@ pub mod Loops
 pub mod TableLemmas
 pub mod ReachLemmas
 pub mod ColumnLemmas
+pub mod Counting

@@ -7,7 +7,9 @@ use Rattle.sheet_columns.specs.Tree.{column_of, above_of, is_number}
 use Rattle.sheet_columns.specs.declared.tree.Node.{Node}
 use Rattle.sheet_meaning.specs.declared.workbook.StoredCell.{StoredCell}
 use Rattle.sheet_meaning.specs.WellFormed as meant
-use Rattle.sheet_meaning.specs.Changes.{first_set, is_other, has_number}
+use Rattle.sheet_meaning.specs.Changes.{first_set, is_other, has_number, with_object}
+use Rattle.sheet_meaning.specs.declared.workbook.Schema.{Schema}
+use Rattle.sheet_meaning.specs.declared.workbook.State.{State}
 use Rattle.plain_meaning.specs.declared.changes.StateColumn.{StateColumn}
 
 -- a state column without its type
@@ -36,3 +38,7 @@ cell_with o c set x = if x.object == o && x.column == c then record x { set = se
 abbrev pub cells_left : List ℕ → List StoredCell → List StoredCell
 cells_left ns cells =
     map (λ (x : StoredCell). record x { set = filter (is_other ns) x.set }) (filter (λ (x : StoredCell). not (has_number ns x.object)) cells)
+
+-- the state with a new object, and with the next number that is given
+abbrev pub made_with : Schema → State → ℕ → ℕ → ℕ → State
+made_with schema s c parent next = record (with_object schema s c parent) { next = next }

@@ -1,9 +1,9 @@
 // The changes that statements make.
-ghost use Rattle.std.specs.Prelude.{◌≡◌, ◌++◌, ◌+◌, ◌<◌, ◌^◌, not, IfOk, OnOk, map, filter, length};
+ghost use Rattle.std.specs.Prelude.{◌≡◌, ◌++◌, ◌<◌, not, IfOk, OnOk, map, filter, length};
 
 
-ghost use Rattle.sheet_meaning.specs.Changes.{changed_set, with_set, first_set, with_object, has_number, has_parent_in, family, is_other, without_object};
-ghost use Rattle.plain_meaning.specs.Columns.{column_at, columns_under, new_cell, cell_with, cells_left};
+ghost use Rattle.sheet_meaning.specs.Changes.{changed_set, with_set, first_set, has_number, has_parent_in, family, is_other, without_object};
+ghost use Rattle.plain_meaning.specs.Columns.{column_at, columns_under, new_cell, cell_with, cells_left, made_with};
 
 use crate::rounds::{column_above, is_column};
 use plain_formulas::{alone, combine, copied};
@@ -204,16 +204,17 @@ fn copied_cells(
     Ok(list)
 }
 
-/// The state with a new object of a column, under an object. Its state cells hold their columns' first values.
+/// The state with a new object of a column, under an object, and with the next number that is given.
+/// The new object's state cells hold their columns' first values.
 pub fn with_object(
     alloc: Global,
     schema: &Schema,
     state: &State,
     column: u32,
     parent: u64,
+    next: u64,
 ) -> Result<State, NoMemory>
-    requires { state.now.next + 1 < 2 ^ 64 }
-    ensures { IfOk result (λ next. next ≡ with_object schema.now state.now column parent) }
+    ensures { IfOk result (λ made. made ≡ made_with schema.now state.now column parent next) }
 {
     let columns = state_columns(alloc, &schema.columns, column)?;
     let under = columns.as_slice();
@@ -230,7 +231,7 @@ pub fn with_object(
     Ok(State {
         objects,
         cells,
-        next: state.next + 1,
+        next,
     })
 }
 

@@ -2,6 +2,7 @@
 #![tactic(auto)]
 
 mod changes;
+mod filled;
 mod kept;
 mod reaching;
 mod rounds;
