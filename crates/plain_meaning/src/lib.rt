@@ -4,6 +4,7 @@
 mod changes;
 mod filled;
 mod kept;
+mod point;
 mod reaching;
 mod rounds;
 
