@@ -3,3 +3,4 @@ pub mod TableLemmas
 pub mod ReachLemmas
 pub mod ColumnLemmas
 pub mod Counting
+pub mod PointLemmas

@@ -1,5 +1,5 @@
 -- How far the plain program's run has come, and how it ends.
-use Rattle.std.specs.Prelude.{◌≡◌, Bool, List, Result, Ok, Err}
+use Rattle.std.specs.Prelude.{◌≡◌, ℕ, List, Result, Ok, Err}
 use Rattle.sheet_values.specs.declared.value.Value.{Value}
 use Rattle.sheet_columns.specs.declared.fault.Fault.{Fault}
 use Rattle.sheet_meaning.specs.declared.run.Run.{Run}
@@ -9,6 +9,10 @@ use Rattle.sheet_meaning.specs.declared.refusal.Refusal.TheVariants.{FormulaFaul
 use Rattle.sheet_meaning.specs.declared.workbook.Schema.{Schema}
 use Rattle.sheet_meaning.specs.Kept.{kept_with}
 use Rattle.sheet_meaning.specs.Statements.{Point, workbook}
+use Rattle.sheet_columns.specs.declared.statement.Change.{Change}
+use Rattle.sheet_meaning.specs.declared.workbook.State.{State}
+use Rattle.sheet_meaning.specs.Workbook.{set_in}
+use Rattle.sheet_meaning.specs.Changes.{changed_set, with_set}
 use Rattle.plain_meaning.specs.declared.point.PlainPoint.{PlainPoint}
 use Rattle.plain_meaning.specs.declared.point.Stop.{Stop}
 use Rattle.plain_meaning.specs.declared.point.Stop.TheVariants.{Refused, NoMemory}
@@ -32,3 +36,7 @@ abbrev pub GoesOn : {A : Type 0} → Schema → Run A → Point → Result (A ×
 GoesOn s r p (Ok x) = (r.outcome ≡ Ok x.0) × (as_point x.1 ≡ keeping s r.uses p)
 GoesOn s r p (Err (Refused e)) = (f : Fault) × (r.outcome ≡ Err f) × (e ≡ FormulaFault f)
 GoesOn s r p (Err NoMemory) = Unit {0}
+
+-- the state after `set`, `add` or `remove`
+abbrev pub stored_in : State → Change → ℕ → ℕ → List Value → State
+stored_in s how o c set = with_set s o c (changed_set how (set_in s.cells o c) set)

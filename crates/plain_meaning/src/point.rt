@@ -1,7 +1,7 @@
 // How far the run of a procedure has come, and what single statements do.
 ghost use Rattle.std.specs.Prelude.{◌≡◌, ◌++◌, ◌∷◌, [], ◌≤◌, IfOk, fold, sum_by, Ok};
 ghost use Rattle.sheet_meaning.specs.Statements.{workbook, formula, target_object, with_variable, with_state, store, make, remove, answer, is_present, value_weight};
-ghost use Rattle.plain_meaning.specs.Points.{as_point, Ends, GoesOn};
+ghost use Rattle.plain_meaning.specs.Points.{as_point, stored_in, Ends, GoesOn};
 
 use crate::changes::{changed_set, with_object, with_set, without_object};
 use crate::filled::{cell_count, stored_values};
@@ -181,6 +181,22 @@ fn full(which: Which, limit: u64) -> Stop
     Stop::Refused(Refusal::Full(which, limit))
 }
 
+// The state after `set`, `add` or `remove`.
+fn stored_in(
+    alloc: Global,
+    state: &State,
+    change: Change,
+    object: u64,
+    column: u32,
+    set: &[Value],
+) -> Result<State, NoMemory>
+    ensures { IfOk result (λ next. next ≡ stored_in state.now change object column set.now) }
+{
+    let old = set_in(alloc, state.cells.as_slice(), object, column)?;
+    let new = changed_set(alloc, change, old.as_slice(), set)?;
+    with_set(alloc, state, object, column, new.as_slice())
+}
+
 /// `set`, `add` and `remove`.
 pub fn store(
     alloc: Global,
@@ -193,9 +209,7 @@ pub fn store(
 ) -> Result<PlainPoint, Stop>
     ensures { Ends result (store schema.now change object column set (as_point point)) }
 {
-    let old = set_in(alloc, point.state.cells.as_slice(), object, column)?;
-    let new = changed_set(alloc, change, old.as_slice(), set.as_slice())?;
-    let next = with_set(alloc, &point.state, object, column, new.as_slice())?;
+    let next = stored_in(alloc, &point.state, change, object, column, set.as_slice())?;
     if stored_values(next.cells.as_slice()) > MAX_VALUES {
         return Err(full(Which::Values, 1_000_000));
     }
@@ -242,13 +256,12 @@ fn remove(
 ) -> Result<PlainPoint, NoMemory>
     ensures { IfOk result (λ p. as_point p ≡ remove schema.now (as_point point) object) }
 {
-    match object_at(point.state.objects.as_slice(), object) {
-        None => Ok(point),
-        Some(_) => {
-            let next = without_object(alloc, &point.state, object)?;
-            with_state(alloc, schema, point, next)
-        }
+    if !is_present(&point.state, &Value::Object(object)) {
+        return Ok(point);
     }
+    let next = without_object(alloc, &point.state, object)?;
+    let point = with_state(alloc, schema, point, next)?;
+    Ok(point)
 }
 
 /// `delete`, for some objects in order.
