@@ -4,3 +4,4 @@ pub mod ReachLemmas
 pub mod ColumnLemmas
 pub mod Counting
 pub mod PointLemmas
+pub mod StatementLemmas

@@ -7,6 +7,7 @@ mod kept;
 mod point;
 mod reaching;
 mod rounds;
+mod statements;
 
 
 pub use reaching::{Cell, reached, support};
