@@ -1,5 +1,3 @@
 pub mod Tables
 pub mod Reached
-pub mod Columns
-pub mod Counts
-pub mod Points
+pub mod Pages

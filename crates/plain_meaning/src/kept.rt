@@ -37,12 +37,7 @@ fn column(state: &State, object: u64) -> Option<u64>
 }
 
 // Whether the content of an item differs between two states.
-fn is_changed(
-    alloc: Global,
-    before: &State,
-    after: &State,
-    item: Item,
-) -> Result<bool, NoMemory>
+fn is_changed(alloc: Global, before: &State, after: &State, item: Item) -> Result<bool, NoMemory>
     ensures { IfOk result (λ b. b ≡ is_changed before.now after.now item) }
 {
     match item {

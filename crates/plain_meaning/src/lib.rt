@@ -1,14 +1,14 @@
-//! A plain, slow program that works out workbooks, procedures and views as their definitions say, for tests.
+//! A plain, slow program that works out workbooks and views as their definitions say, for tests.
 #![tactic(auto)]
 
-mod changes;
-mod filled;
 mod kept;
-mod point;
 mod reaching;
 mod rounds;
-mod statements;
+mod showing;
+mod stop;
 
-
+pub use kept::{kept_after, kept_with};
 pub use reaching::{Cell, reached, support};
-pub use rounds::{CellRun, run_cells, settled, table_after, value_of};
+pub use rounds::{CellRun, column_above, is_column, run_cells, settled, table_after, value_of};
+pub use showing::{PlainPart, PlainRow, Shown, first_variables, page};
+pub use stop::Stop;

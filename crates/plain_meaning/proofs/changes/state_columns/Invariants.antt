@@ -1,7 +1,0 @@
-use Rattle.std.proofs.Common.{◌≡◌, ◌++◌, drop}
-use Rattle.plain_meaning.specs.Columns.{columns_under}
-use Rattle.plain_meaning.proofs.ColumnLemmas.{columns_from}
-use Rattle.plain_meaning.proofs.changes.state_columns.Given as goal
-
-abbrev pub invariant-loop-number : goal.invariant-loop-number
-invariant-loop-number l = l.list.items ++ columns_from l.columns l.above l.number (drop l.number l.columns) ≡ columns_under l.columns l.above

@@ -1,0 +1,4 @@
+pub mod ColumnLemmas
+pub mod Counting
+pub mod PointLemmas
+pub mod StatementLemmas
