@@ -36,8 +36,8 @@ module _ (w : Workbook) where
   one_cells_same =
       ap (λ f. flat_map f w.state.objects)
       (fun_ext (λ (x : LiveObject).
-        ap (map (λ (k : StateColumn). (x.number, k.number))) (filter_brief (meant.state_columns w.schema x.column))
-        ∙ map_map (λ (k : StateColumn). (x.number, k.number)) brief (filter (λ (k : meant.StateColumn). k.one) (meant.state_columns w.schema x.column))))
+      ap (map (λ (k : StateColumn). (x.number, k.number))) (filter_brief (meant.state_columns w.schema x.column))
+      ∙ map_map (λ (k : StateColumn). (x.number, k.number)) brief (filter (λ (k : meant.StateColumn). k.one) (meant.state_columns w.schema x.column))))
 
   pub found_same : (cells : List StoredCell) (objects : List LiveObject) (read among : List (ℕ × ℕ)) → objects ≡ w.state.objects → among ≡ flat_map (one_pairs w.schema) objects → read ≡ among → cells ≡ w.state.cells → find (λ (x : ℕ × ℕ). not (length (set_in cells x.0 x.1) == 1)) read ≡ meant.unfilled w
   found_same cells objects read among os these same cs =

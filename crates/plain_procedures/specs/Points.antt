@@ -1,5 +1,5 @@
 -- How far the plain program's run has come, and how it ends.
-use Rattle.std.specs.Prelude.{◌≡◌, ℕ, if◌then◌else◌, List, [], ◌∷◌, Result, Ok, Err}
+use Rattle.std.specs.Prelude.{◌≡◌, ℕ, List, Result, Ok, Err}
 use Rattle.sheet_values.specs.declared.value.Value.{Value}
 use Rattle.sheet_columns.specs.declared.fault.Fault.{Fault}
 use Rattle.sheet_meaning.specs.declared.run.Run.{Run}
@@ -7,9 +7,8 @@ use Rattle.sheet_meaning.specs.declared.run.Use.{Use}
 use Rattle.sheet_meaning.specs.declared.refusal.Refusal.{Refusal}
 use Rattle.sheet_meaning.specs.declared.refusal.Refusal.TheVariants.{FormulaFault}
 use Rattle.sheet_meaning.specs.declared.workbook.Schema.{Schema}
-use Rattle.sheet_meaning.specs.Formula.{Variables}
 use Rattle.sheet_meaning.specs.Kept.{kept_with}
-use Rattle.sheet_meaning.specs.Statements.{Point, workbook, with_variable, is_present}
+use Rattle.sheet_meaning.specs.Statements.{Point, workbook}
 use Rattle.sheet_columns.specs.declared.statement.Change.{Change}
 use Rattle.sheet_meaning.specs.declared.workbook.State.{State}
 use Rattle.sheet_meaning.specs.Workbook.{set_in}
@@ -41,12 +40,3 @@ GoesOn s r p (Err NoMemory) = Unit {0}
 -- the state after `set`, `add` or `remove`
 abbrev pub stored_in : State → Change → ℕ → ℕ → List Value → State
 stored_in s how o c set = with_set s o c (changed_set how (set_in s.cells o c) set)
-
--- the end of a block that began with these variables
-abbrev pub ended_at : Variables → Result Point Refusal → Result Point Refusal
-ended_at v (Ok q) = Ok (record q { variables = v })
-ended_at v (Err e) = Err e
-
--- one turn of a `for`
-abbrev pub turn_of : (Point → Result Point Refusal) → Value → Point → Result Point Refusal
-turn_of body x p = if is_present p.state x then ended_at p.variables (body (with_variable p (x ∷ []))) else Ok p

@@ -1,12 +1,10 @@
 // The changes that statements make.
 ghost use Rattle.std.specs.Prelude.{◌≡◌, ◌++◌, ◌<◌, not, IfOk, OnOk, map, filter, length};
-
-
 ghost use Rattle.sheet_meaning.specs.Changes.{changed_set, with_set, first_set, has_number, has_parent_in, family, is_other, without_object};
 ghost use Rattle.plain_procedures.specs.Columns.{column_at, columns_under, new_cell, cell_with, cells_left, made_with};
 
-use plain_meaning::{column_above, is_column};
 use plain_formulas::{alone, combine, copied};
+use plain_meaning::{column_above, is_column};
 use sheet_columns::{Change, Column, Columns, Sequence, SetOperator};
 use sheet_meaning::{LiveObject, Schema, State, StoredCell};
 use sheet_values::{NoMemory, Value, Values};
@@ -31,7 +29,12 @@ fn push_column(
     ensures { OnOk result (list.new.items ≡ list.old.items ++ column_at columns.now above number) }
 {
     if is_column(above, column_above(columns, number)) {
-        if let Column::State { kind: _, one, first } = columns.get(number) {
+        if let Column::State {
+            kind: _,
+            one,
+            first,
+        } = columns.get(number)
+        {
             let first = match first {
                 Some(value) => Some(value.copy()?),
                 None => None,
@@ -77,10 +80,7 @@ pub fn changed_set(
     }
 }
 
-fn copied_objects(
-    alloc: Global,
-    objects: &[LiveObject],
-) -> Result<Sequence<LiveObject>, NoMemory>
+fn copied_objects(alloc: Global, objects: &[LiveObject]) -> Result<Sequence<LiveObject>, NoMemory>
     ensures { IfOk result (λ list. list ≡ objects.now) }
 {
     let mut list = Sequence::new(alloc);
@@ -189,10 +189,7 @@ fn push_new_cells(
     Ok(list)
 }
 
-fn copied_cells(
-    alloc: Global,
-    cells: &[StoredCell],
-) -> Result<Sequence<StoredCell>, NoMemory>
+fn copied_cells(alloc: Global, cells: &[StoredCell]) -> Result<Sequence<StoredCell>, NoMemory>
     ensures { IfOk result (λ list. list ≡ cells.now) }
 {
     let mut list = Sequence::new(alloc);

@@ -7,19 +7,14 @@ ghost use Rattle.sheet_meaning.specs.Statements.{workbook};
 ghost use Rattle.plain_procedures.specs.Counts.{pairs_of, one_pairs_of, all_pairs, one_pairs};
 
 use crate::changes::{StateColumn, state_columns};
-use plain_meaning::Cell;
-use plain_meaning::run_cells;
 use plain_formulas::set_in;
+use plain_meaning::{Cell, run_cells};
 use sheet_meaning::{LiveObject, Schema, State, StoredCell};
 use sheet_values::NoMemory;
 use std::alloc::Global;
 
 // The cells of an object in some state columns.
-fn push_pairs(
-    object: u64,
-    columns: &[StateColumn],
-    list: &mut Vec<Cell>,
-) -> Result<(), NoMemory>
+fn push_pairs(object: u64, columns: &[StateColumn], list: &mut Vec<Cell>) -> Result<(), NoMemory>
     ensures { OnOk result (list.new.items ≡ list.old.items ++ pairs_of object columns.now) }
 {
     let mut rest = columns;
@@ -67,11 +62,7 @@ fn state_cells(
 }
 
 // Those of their state cells that must hold exactly one value.
-fn one_cells(
-    alloc: Global,
-    schema: &Schema,
-    objects: &[LiveObject],
-) -> Result<Vec<Cell>, NoMemory>
+fn one_cells(alloc: Global, schema: &Schema, objects: &[LiveObject]) -> Result<Vec<Cell>, NoMemory>
     ensures { IfOk result (λ list. list.items ≡ flat_map (one_pairs schema.now) objects.now) }
 {
     let mut list = Vec::new(alloc);

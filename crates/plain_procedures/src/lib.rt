@@ -1,10 +1,12 @@
-//! A plain, slow program that runs procedures as their definitions say, for tests.
+//! A plain, slow program that does what single statements do, as their definitions say, for tests.
 #![tactic(auto)]
 
 mod changes;
 mod filled;
 mod point;
-mod statements;
 
-pub use point::PlainPoint;
-pub use statements::{run_statement, run_statements};
+pub use filled::unfilled;
+pub use point::{
+    PlainPoint, answer, formula, go_on, is_present, make, remove_all, store, target_object,
+    with_variable,
+};

@@ -5,8 +5,8 @@ ghost use Rattle.plain_procedures.specs.Points.{as_point, stored_in, Ends, GoesO
 
 use crate::changes::{changed_set, with_object, with_set, without_object};
 use crate::filled::{cell_count, stored_values};
-use plain_meaning::{Cell, Stop, kept_after, kept_with, settled, value_of};
 use plain_formulas::{alone, object, object_at, set_in};
+use plain_meaning::{Cell, Stop, kept_after, kept_with, settled, value_of};
 use sheet_columns::{Change, Core, Place, Target};
 use sheet_meaning::{Refusal, Run, Schema, State, Which};
 use sheet_values::{NoMemory, Value, Values};
@@ -137,9 +137,13 @@ fn with_state(
 }
 
 const MAX_OBJECTS: usize = 100_000;
+
 const MAX_CELLS: u128 = 1_000_000;
+
 const MAX_VALUES: u128 = 1_000_000;
+
 const MAX_NUMBER: u64 = 1_000_000_000_000;
+
 const MAX_REPLY: u128 = 4096;
 
 fn full(which: Which, limit: u64) -> Stop

@@ -7,4 +7,4 @@ abbrev pub decreases-loop-value : goal.decreases-loop-value
 decreases-loop-value l = length l.rest
 
 abbrev pub invariant-loop-value : goal.invariant-loop-value
-invariant-loop-value l = l.list.items ++ map (λ a. a ∷ []) l.rest ≡ first_variables l.caller l.arguments
+invariant-loop-value l = l.list.items ++ map (λ a. a ∷ []) l.rest ≡ first_variables l.fn.caller l.arguments

@@ -1,5 +1,4 @@
 use Rattle.std.proofs.Common.{◌≡◌, ◌++◌, length}
-
 use Rattle.plain_procedures.proofs.changes.copied_cells.Given as goal
 
 abbrev pub decreases-loop-cell : goal.decreases-loop-cell

@@ -1,5 +1,4 @@
 use Rattle.std.proofs.Common.{◌≡◌, ◌++◌, length}
-
 use Rattle.plain_procedures.proofs.changes.copied_objects.Given as goal
 
 abbrev pub decreases-loop-object : goal.decreases-loop-object
