@@ -6,6 +6,11 @@ use Rattle.sheet_columns.specs.declared.page.Part.{Part}
 use Rattle.sheet_columns.specs.declared.page.Part.TheVariants as part
 use Rattle.sheet_columns.specs.declared.page.Row.{Row}
 use Rattle.sheet_meaning.specs.declared.refusal.Refusal.{Refusal}
+use Rattle.std.specs.List.{flat_map}
+use Rattle.sheet_meaning.specs.declared.run.Use.{Use}
+use Rattle.sheet_meaning.specs.declared.workbook.Workbook.{Workbook}
+use Rattle.sheet_meaning.specs.Formula.{Variables}
+use Rattle.sheet_meaning.specs.Page.{slot_run}
 use Rattle.plain_meaning.specs.declared.showing.PlainRow.{PlainRow}
 use Rattle.plain_meaning.specs.declared.showing.PlainPart.{PlainPart}
 use Rattle.plain_meaning.specs.declared.showing.PlainPart.TheVariants as plain
@@ -31,3 +36,7 @@ abbrev pub IsPage : Result (List PlainPart) Stop → Result (List Part) Refusal 
 IsPage (Ok parts) p = p ≡ Ok (map as_part parts)
 IsPage (Err (Refused e)) p = p ≡ Err e
 IsPage (Err NoMemory) p = Unit {0}
+
+-- what slots use
+abbrev pub slots_used : Workbook → Variables → List CoreSlot → List Use
+slots_used w v slots = flat_map (λ slot. (slot_run w v slot).uses) slots

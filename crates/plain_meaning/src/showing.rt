@@ -36,8 +36,8 @@ pub enum PlainPart {
     Table(Name, Sequence<Name>, Result<Sequence<PlainRow>, Fault>),
 }
 
-// What a slot's formula comes to.
-fn slot_run(
+/// What a slot's formula comes to.
+pub fn slot_run(
     alloc: Global,
     schema: &Schema,
     state: &State,
@@ -52,8 +52,8 @@ fn slot_run(
     value_of(alloc, schema, state, cells, &slot.shown, place, variables)
 }
 
-// The variables with one more, which holds the value.
-fn bound(alloc: Global, variables: &[Values], value: &Value) -> Result<Vec<Values>, NoMemory>
+/// The variables with one more, which holds the value.
+pub fn bound(alloc: Global, variables: &[Values], value: &Value) -> Result<Vec<Values>, NoMemory>
     ensures { IfOk result (λ list. list.items ≡ bind variables.now value.now) }
 {
     let mut list = Vec::new(alloc);
