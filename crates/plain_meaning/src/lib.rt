@@ -14,6 +14,3 @@ pub use resting::view_support;
 pub use rounds::{CellRun, column_above, is_column, run_cells, settled, table_after, value_of};
 pub use showing::{PlainPart, PlainRow, Shown, first_variables, page};
 pub use stop::Stop;
-
-#[cfg(test)]
-mod tests;
