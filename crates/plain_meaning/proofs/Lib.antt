@@ -1,0 +1,4 @@
+pub mod Loops
+pub mod TableLemmas
+pub mod ReachLemmas
+pub mod RestLemmas

@@ -1,0 +1,5 @@
+use Rattle.std.proofs.Common.{◌≡◌, take}
+use Rattle.plain_meaning.proofs.showing.bound.Given as goal
+
+abbrev pub invariant-loop-set : goal.invariant-loop-set
+invariant-loop-set l = l.list.items ≡ take l.set-index l.variables
