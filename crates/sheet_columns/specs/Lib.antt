@@ -1,3 +1,4 @@
+pub mod Contents
 pub mod ItemOrder
 pub mod Statements
 pub mod Tree

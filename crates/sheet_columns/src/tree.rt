@@ -1,5 +1,6 @@
 // The tree of columns.
-ghost use Rattle.std.specs.Prelude.{◌≡◌, ◌<◌, ◌≤◌, ◌+◌, ◌↔◌, ◌++◌, ◌∷◌, [], length, Some, None, Err, IfOk, IfSome, OnOk, OnErr, ℕ, string_bytes};
+ghost use Rattle.std.specs.Prelude.{◌≡◌, ◌<◌, ◌≤◌, ◌+◌, ◌↔◌, ◌++◌, ◌∷◌, [], length, Some, None, Err, IfOk, IfSome, OnOk, OnErr, ℕ, option_map, string_bytes};
+ghost use Rattle.sheet_columns.specs.Contents.{holds_objects, with_column};
 ghost use Rattle.sheet_columns.specs.Tree.{root, column_of, name_of, above_of, is_child_named, child_named, depth, path, HasFittingFirst, IsTree};
 
 use sheet_values::{Kind, Name, NoMemory, Value};
@@ -137,6 +138,17 @@ impl Columns {
         };
         self.nodes.push(node)?;
         Ok(number)
+    }
+
+    /// Changes what a column holds. An object column holds objects still, and no other column does. A first value is of the
+    /// column's kind and no object.
+    pub fn set(&mut self, column: u32, content: Column)
+        requires alike { option_map holds_objects (column_of self.old column) ≡ Some (holds_objects content) }
+        requires fitting { HasFittingFirst content }
+        ensures { self.new ≡ with_column self.old column content }
+    {
+        let node = &mut self.nodes[column as usize];
+        node.column = content;
     }
 
     /// How many columns there are, with the root: 1 to 1,000.
