@@ -1,16 +1,37 @@
 -- The way back from edits.
-use Rattle.std.proofs.Common.{◌≡◌, refl, sym, ap, ◌∙◌, subst, ℕ, ◌+◌, ◌-◌, ◌<◌, ◌≤◌, zero, suc, List, [], ◌∷◌, ◌++◌, length, take, get_or, arith, Some}
+use Rattle.std.proofs.Common.{◌≡◌, refl, sym, ap, ◌∙◌, subst, ℕ, ◌+◌, ◌-◌, ◌<◌, ◌≤◌, zero, suc, List, [], ◌∷◌, ◌++◌, length, take, get_or, arith, Some, false}
 use Rattle.std.specs.Prelude.{slice_set, slice_get, reverse}
 use Rattle.std.proofs.lemmas.List.{set-set, set-get_or, take-take, take_all, length_push, take_at, reverse-append}
-use Rattle.sheet_objects.specs.Rows.{Table, with_counters}
+use Rattle.sheet_values.specs.Order.{value_cmp}
+use Rattle.sheet_values.specs.OrderLaws.{value_total}
+use Rattle.sheet_values.specs.Sets.{contains}
+use Rattle.sheet_values.specs.declared.value.Value.{Value}
+use Rattle.sheet_values.specs.declared.value.Value.TheVariants.{Object}
+use Rattle.sheet_values.proofs.Removing.{insert_removed}
+use Rattle.sheet_objects.specs.Rows.{Table, with_counters, set_row, joined, parted}
+use Rattle.sheet_objects.specs.declared.row.SetRow.{SetRow}
 use Rattle.sheet_objects.specs.Undoing.{undone, CanUndo, CanUndoAll, begins, marked, past}
 use Rattle.sheet_objects.specs.declared.row.Counters.{Counters}
 use Rattle.sheet_objects.specs.declared.edit.Edit.{Edit}
-use Rattle.sheet_objects.specs.declared.edit.Edit.TheVariants.{Begun, ObjectAdded, ObjectReplaced, CellAdded, CellReplaced, ExtentAdded, ExtentReplaced}
+use Rattle.sheet_objects.specs.declared.edit.Edit.TheVariants.{Begun, ObjectAdded, ObjectReplaced, CellAdded, CellReplaced, ExtentAdded, ExtentReplaced, ExtentJoined}
 
 -- what was replaced goes back to its place
 pub set_back : {A : Type 0} (xs : List A) (k : ℕ) (x y : A) → k < length xs → x ≡ get_or xs k x → slice_set (slice_set xs k y) k x ≡ xs
 set_back xs k x y lt e = set-set xs k y x ∙ ap (λ z. slice_set xs k z) e ∙ set-get_or xs k x
+
+-- an object that joined is parted again
+pub join_back : (xs : List SetRow) (k n : ℕ) → k < length xs → contains (Object n) (set_row xs k).set ≡ false → slice_set (slice_set xs k (joined n (set_row xs k))) k (parted n (set_row (slice_set xs k (joined n (set_row xs k))) k)) ≡ xs
+join_back xs k n lt none =
+    let r = set_row xs k in
+    ap (λ (q : SetRow). slice_set (slice_set xs k (joined n r)) k (parted n q)) (set_there xs k (joined n r) lt)
+    ∙ set-set xs k (joined n r) (parted n (joined n r))
+    ∙ ap (λ (l : List Value). slice_set xs k (record r { set = l })) (insert_removed value_cmp value_total r.set (Object n) none)
+    ∙ set-get_or xs k (record { object = 0; column = 0; live = false; set = [] })
+  where
+    set_there : (ys : List SetRow) (j : ℕ) (q : SetRow) → j < length ys → set_row (slice_set ys j q) j ≡ q
+    set_there [] j q lt = absurd (omega arith)
+    set_there (y ∷ ys) zero q lt = refl
+    set_there (y ∷ ys) (suc j) q lt = set_there ys j q (omega arith)
 
 -- counters are set back where a change began, so later ones don't matter
 pub past_counters : (es : List Edit) (t : Table) (n : Counters) → past es (with_counters t n) ≡ past es t
@@ -22,6 +43,7 @@ past_counters (CellAdded ∷ es) t n = past_counters es _ n
 past_counters (CellReplaced k row ∷ es) t n = past_counters es _ n
 past_counters (ExtentAdded ∷ es) t n = past_counters es _ n
 past_counters (ExtentReplaced k row ∷ es) t n = past_counters es _ n
+past_counters (ExtentJoined k m ∷ es) t n = past_counters es _ n
 
 pub undo_counters : (es : List Edit) (t : Table) (n : Counters) → CanUndoAll es t → CanUndoAll es (with_counters t n)
 undo_counters [] t n h = tt
@@ -32,6 +54,7 @@ undo_counters (CellAdded ∷ es) t n h = (h.0, undo_counters es _ n h.1)
 undo_counters (CellReplaced k row ∷ es) t n h = (h.0, undo_counters es _ n h.1)
 undo_counters (ExtentAdded ∷ es) t n h = (h.0, undo_counters es _ n h.1)
 undo_counters (ExtentReplaced k row ∷ es) t n h = (h.0, undo_counters es _ n h.1)
+undo_counters (ExtentJoined k m ∷ es) t n h = (h.0, undo_counters es _ n h.1)
 
 pub marked_length : (e : Edit) (t : Table) (ts : List Table) → length (marked e t ts) ≡ length ts + begins e
 marked_length (Begun n) t ts = length_push ts t
@@ -41,6 +64,7 @@ marked_length CellAdded t ts = omega arith
 marked_length (CellReplaced k row) t ts = omega arith
 marked_length ExtentAdded t ts = omega arith
 marked_length (ExtentReplaced k row) t ts = omega arith
+marked_length (ExtentJoined k n) t ts = omega arith
 
 one_at_most : (e : Edit) → begins e ≤ 1
 one_at_most (Begun n) = omega arith
@@ -50,6 +74,7 @@ one_at_most CellAdded = omega arith
 one_at_most (CellReplaced k row) = omega arith
 one_at_most ExtentAdded = omega arith
 one_at_most (ExtentReplaced k row) = omega arith
+one_at_most (ExtentJoined k n) = omega arith
 
 -- there are no more changes than edits
 pub past_length : (es : List Edit) (t : Table) → length (past es t) ≤ length es
@@ -139,6 +164,7 @@ module _ (ts : List Table) (t : Table) (mark : ℕ) where
   goes (CellReplaced k row) es u begun lt g = quiet (CellReplaced k row) es u begun refl refl lt g
   goes ExtentAdded es u begun lt g = quiet ExtentAdded es u begun refl refl lt g
   goes (ExtentReplaced k row) es u begun lt g = quiet (ExtentReplaced k row) es u begun refl refl lt g
+  goes (ExtentJoined k n) es u begun lt g = quiet (ExtentJoined k n) es u begun refl refl lt g
 
 pub turned : (es es' : List Edit) (e : Edit) → es ≡ es' ++ e ∷ [] → reverse es ≡ e ∷ reverse es'
 turned es es' e h = ap reverse h ∙ reverse-append es' (e ∷ [])

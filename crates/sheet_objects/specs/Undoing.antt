@@ -1,8 +1,8 @@
 -- Edits of rows, each with what takes it back.
 use Rattle.std.specs.Prelude.{ℕ, ◌-◌, ◌<◌, List, [], ◌∷◌, ◌++◌, length, take, slice_set}
-use Rattle.sheet_objects.specs.Rows.{Table, with_objects, with_cells, with_extents, with_counters}
+use Rattle.sheet_objects.specs.Rows.{Table, with_objects, with_cells, with_extents, with_counters, set_row, parted}
 use Rattle.sheet_objects.specs.declared.edit.Edit.{Edit}
-use Rattle.sheet_objects.specs.declared.edit.Edit.TheVariants.{Begun, ObjectAdded, ObjectReplaced, CellAdded, CellReplaced, ExtentAdded, ExtentReplaced}
+use Rattle.sheet_objects.specs.declared.edit.Edit.TheVariants.{Begun, ObjectAdded, ObjectReplaced, CellAdded, CellReplaced, ExtentAdded, ExtentReplaced, ExtentJoined}
 
 -- all but the last
 abbrev pub front : {A : Type 0} → List A → List A
@@ -17,6 +17,7 @@ undone CellAdded t = with_cells t (front t.cells)
 undone (CellReplaced k row) t = with_cells t (slice_set t.cells k row)
 undone ExtentAdded t = with_extents t (front t.extents)
 undone (ExtentReplaced k row) t = with_extents t (slice_set t.extents k row)
+undone (ExtentJoined k n) t = with_extents t (slice_set t.extents k (parted n (set_row t.extents k)))
 
 -- the edit can be taken back
 abbrev pub CanUndo : Edit → Table → Type 0
@@ -27,6 +28,7 @@ CanUndo CellAdded t = 0 < length t.cells
 CanUndo (CellReplaced k row) t = k < length t.cells
 CanUndo ExtentAdded t = 0 < length t.extents
 CanUndo (ExtentReplaced k row) t = k < length t.extents
+CanUndo (ExtentJoined k n) t = k < length t.extents
 
 -- all edits can be taken back, the latest first
 abbrev pub CanUndoAll : List Edit → Table → Type 0
@@ -42,6 +44,7 @@ begins CellAdded = 0
 begins (CellReplaced k row) = 0
 begins ExtentAdded = 0
 begins (ExtentReplaced k row) = 0
+begins (ExtentJoined k n) = 0
 
 -- where a change begins, its table stands behind the earlier ones
 abbrev pub marked : Edit → Table → List Table → List Table
@@ -52,6 +55,7 @@ marked CellAdded t ts = ts
 marked (CellReplaced k row) t ts = ts
 marked ExtentAdded t ts = ts
 marked (ExtentReplaced k row) t ts = ts
+marked (ExtentJoined k n) t ts = ts
 
 -- the tables where changes began, the earliest first, from the edits, the latest first
 abbrev pub past : List Edit → Table → List Table

@@ -21,6 +21,8 @@ pub enum Edit {
     ExtentAdded,
     /// At this place stood that row.
     ExtentReplaced(usize, SetRow),
+    /// That object, which it lacked, came into the extent at this place.
+    ExtentJoined(usize, u64),
 }
 
 impl Edit {

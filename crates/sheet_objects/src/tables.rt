@@ -1,9 +1,9 @@
 // Rows that can be taken back to what they were when a change began.
 ghost use Rattle.std.specs.Prelude.{◌≡◌, ◌<◌, ◌≤◌, ◌++◌, [], ◌∷◌, length, take, slice_get, slice_set, slice_index_or, Some, OnOk, OnErr, IfOk};
-ghost use Rattle.sheet_objects.specs.Rows.{with_objects, with_cells, with_extents, with_counters};
+ghost use Rattle.sheet_objects.specs.Rows.{with_objects, with_cells, with_extents, with_counters, set_row, joined, only_live};
 
 use crate::edit::Edit;
-use crate::rows::Rows;
+use crate::rows::{Rows, join, keep_live_objects, keep_live_sets};
 use crate::{Counters, ObjectRow, SetRow};
 use sheet_values::NoMemory;
 use std::alloc::Global;
@@ -174,6 +174,22 @@ impl Tables {
         Ok(())
     }
 
+    /// Puts an object into the set of the extent at a place. Nothing changes after the refusal.
+    pub fn join_extent(&mut self, place: usize, object: u64) -> Result<(), NoMemory>
+        requires { place < length self.old.present.extents }
+        ensures ok { OnOk result (self.new.present ≡ with_extents self.old.present (slice_set self.old.present.extents place (joined object (set_row self.old.present.extents place)))) }
+        ensures err { OnErr result (self.new.present ≡ self.old.present) }
+        ensures earlier { self.new.earlier ≡ self.old.earlier }
+    {
+        self.edits.reserve(1)?;
+        if join(&mut self.rows.extents, place, object)? {
+            self.edits.push_reserved(Edit::ExtentJoined(place, object));
+            Ok(())
+        } else {
+            Ok(())
+        }
+    }
+
     /// Sets the counters. It takes no memory.
     pub fn count(&mut self, counters: Counters)
         ensures present { self.new.present ≡ with_counters self.old.present counters }
@@ -204,6 +220,18 @@ impl Tables {
         ensures present { self.new.present ≡ self.old.present }
         ensures earlier { self.new.earlier ≡ [] }
     {
+        self.edits.clear();
+        self.begun = 0;
+    }
+
+    /// Drops what the way back needs, and all rows of what is gone. Nothing can be undone any more. It takes no memory.
+    pub fn compact(&mut self)
+        ensures present { self.new.present ≡ only_live self.old.present }
+        ensures earlier { self.new.earlier ≡ [] }
+    {
+        keep_live_objects(&mut self.rows.objects);
+        keep_live_sets(&mut self.rows.cells);
+        keep_live_sets(&mut self.rows.extents);
         self.edits.clear();
         self.begun = 0;
     }

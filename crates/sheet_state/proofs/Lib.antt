@@ -17,3 +17,5 @@ pub mod Gone
 pub mod Rid
 pub mod Told
 pub mod Searching
+pub mod Compacting
+pub mod Schemas

@@ -13,7 +13,9 @@ use Rattle.sheet_objects.specs.declared.row.SetRow.{SetRow}
 use Rattle.sheet_meaning.specs.WellFormed.{stored_values}
 use Rattle.sheet_meaning.specs.declared.workbook.StoredCell.{StoredCell}
 use Rattle.sheet_state.specs.Rows.{live_cell, cells_in, row_cmp, is_set}
-use Rattle.sheet_state.proofs.Lookups.{FirstAt, first_passes}
+use Rattle.sheet_objects.specs.Rows.{set_row}
+use Rattle.sheet_state.specs.Births.{live_row, set_at}
+use Rattle.sheet_state.proofs.Lookups.{FirstAt, first_passes, first_read}
 
 -- the cell of an object and a column gets a set
 abbrev pub set_of : ℕ → ℕ → List Value → StoredCell → StoredCell
@@ -157,3 +159,15 @@ values_set o c set (q ∷ rows) (suc k) r f =
     let t = size q.live (record { object = q.object; column = q.column; set = q.set }) (cells_in (slice_set rows k (row o c set))) in
     let rest = values_set o c set rows k r f.1 in
     omega (arith, s, t, rest)
+
+-- what stands at the place of a found row
+pub row_read : (o c : ℕ) (rows : List SetRow) (k : ℕ) (r : SetRow) → FirstAt (is_set o c) rows k r → set_row rows k ≡ live_row o c (set_at rows k)
+row_read o c rows k r f =
+    let there : set_row rows k ≡ r = first_read (is_set o c) rows k r _ f in
+    let p = passes o c r (first_passes (is_set o c) rows k r f) in
+    let key = key_is o c r p.1 in
+    there
+    ∙ ap (λ n. record { object = n; column = r.column; live = r.live; set = r.set }) key.0
+    ∙ ap (λ n. record { object = o; column = n; live = r.live; set = r.set }) key.1
+    ∙ ap (λ b. record { object = o; column = c; live = b; set = r.set }) p.0
+    ∙ ap (λ (q : SetRow). live_row o c q.set) (sym there)

@@ -182,7 +182,7 @@ children_left ns (x ∷ xs) o c =
           ]
     ] refl
 
-filter_all : {A : Type 0} (P : A → Type 0) (p : A → Bool) (xs : List A) → AllByRecursion P xs → AllByRecursion P (filter p xs)
+pub filter_all : {A : Type 0} (P : A → Type 0) (p : A → Bool) (xs : List A) → AllByRecursion P xs → AllByRecursion P (filter p xs)
 filter_all P p [] h = tt
 filter_all P p (x ∷ xs) h = elim (p x) as (λ b. AllByRecursion P (cond b (x ∷ filter p xs) (filter p xs))) [ true ↦ (h.0, filter_all P p xs h.1) | false ↦ filter_all P p xs h.1 ]
 

@@ -46,6 +46,10 @@ formula_columns nodes c = filter_map (λ (x : ℕ × Node). if is_number c x.1.a
 abbrev pub set_at : List SetRow → ℕ → List Value
 set_at rows k = (slice_index_or rows k (record { object = 0; column = 0; live = false; set = [] })).set
 
+-- the row of a live object's set
+abbrev pub live_row : ℕ → ℕ → List Value → SetRow
+live_row o c set = record { object = o; column = c; live = true; set = set }
+
 -- the rows of a new object's state cell and extent
 abbrev pub new_cell : ℕ → StateColumn → SetRow
 new_cell o k = record { object = o; column = k.number; live = true; set = first_set k.first }
@@ -83,7 +87,7 @@ born nodes t place c parent counters =
     with_counters
     (with_rows
     (with_objects
-    (with_extents t (slice_set t.extents place (record { object = parent; column = c; live = true; set = insert value_cmp (Object t.counters.next) (set_at t.extents place) })))
+    (with_extents t (slice_set t.extents place (live_row parent c (insert value_cmp (Object t.counters.next) (set_at t.extents place)))))
     (t.objects ++ new_object_row t.counters.next c parent ∷ []))
     t.counters.next
     (state_columns (schema_of nodes) c)

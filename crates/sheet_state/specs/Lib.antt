@@ -3,3 +3,4 @@ pub mod Limits
 pub mod Rows
 pub mod Births
 pub mod Deaths
+pub mod Schemas

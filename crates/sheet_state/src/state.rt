@@ -4,14 +4,12 @@ ghost use Rattle.sheet_columns.specs.Tree.{column_of, above_of};
 ghost use Rattle.sheet_columns.specs.declared.tree.Node.{Node};
 ghost use Rattle.sheet_columns.specs.declared.tree.Column.TheVariants.{Object as object_column};
 ghost use Rattle.sheet_columns.specs.declared.item.Item.TheVariants.{Stored};
-ghost use Rattle.sheet_objects.specs.Rows.{with_cells, with_counters};
-ghost use Rattle.sheet_values.specs.Order.{value_cmp};
-ghost use Rattle.sheet_values.specs.Sorted.{insert, IsRising};
-ghost use Rattle.sheet_values.specs.declared.value.Value.TheVariants.{Object};
+ghost use Rattle.sheet_objects.specs.Rows.{with_cells, with_counters, set_row};
+ghost use Rattle.sheet_values.specs.Sorted.{IsRising};
 ghost use Rattle.sheet_meaning.specs.Changes.{with_set, with_object, without_object};
 ghost use Rattle.sheet_meaning.specs.Workbook.{object_at, column_in, parent_in, children_in, set_in};
 ghost use Rattle.sheet_meaning.specs.WellFormed.{HoldsKind};
-ghost use Rattle.sheet_state.specs.Births.{born, born_items};
+ghost use Rattle.sheet_state.specs.Births.{born, born_items, live_row, set_at};
 ghost use Rattle.sheet_state.specs.Deaths.{rid_of, rid_items};
 ghost use Rattle.sheet_state.specs.Kept.{IsKept, AreChanged, schema_of, book, start};
 ghost use Rattle.sheet_state.specs.Rows.{object_of, objects_in, cells_in, object_cmp, row_cmp};
@@ -24,7 +22,7 @@ use crate::lookup::{object_place, set_place};
 use sheet_columns::{Columns, Item, Items};
 use sheet_meaning::Which;
 use sheet_objects::{Counters, ObjectRow, SetRow, Tables};
-use sheet_values::{NoMemory, Set, Value};
+use sheet_values::{NoMemory, Set};
 use std::alloc::Global;
 use std::marker::Model;
 
@@ -224,13 +222,19 @@ impl State {
         self.tables.undo_to(mark.place);
     }
 
-    /// Drops what undo keeps. No earlier mark is good any more. It takes no memory.
+    /// Drops what undo keeps, and the rows of gone objects where they are more than half of all. No earlier mark is good any
+    /// more. It takes no memory.
     pub fn forget(&mut self)
         ensures state { self.new.present ≡ self.old.present }
         ensures earlier { self.new.earlier ≡ [] }
         ensures kept { (nodes : List Node) → IsKept nodes self.old → IsKept nodes self.new }
     {
-        self.tables.forget();
+        let rows = self.tables.objects().len() as u64;
+        if rows / 2 > self.tables.counters().objects {
+            self.tables.compact();
+        } else {
+            self.tables.forget();
+        }
     }
 
     /// What a state cell holds: nothing where the object isn't live or has no such cell. It takes no memory.
@@ -336,7 +340,8 @@ fn create(
     place: usize,
     after: Counters,
 ) -> Result<Items, NoMemory>
-    requires { place < length tables.old.present.extents }
+    requires place { place < length tables.old.present.extents }
+    requires row { set_row tables.old.present.extents place ≡ live_row parent column (set_at tables.old.present.extents place) }
     ensures present { OnOk result (tables.new.present ≡ born columns.now tables.old.present place column parent after) }
     ensures items { IfOk result (λ items. items ≡ born_items columns.now tables.old.present.counters.next column parent) }
     ensures earlier { OnOk result (tables.new.earlier ≡ tables.old.earlier ++ tables.old.present ∷ []) }
@@ -363,7 +368,8 @@ fn make(
     place: usize,
     after: Counters,
 ) -> Result<Items, NoMemory>
-    requires { place < length tables.old.present.extents }
+    requires place { place < length tables.old.present.extents }
+    requires row { set_row tables.old.present.extents place ≡ live_row parent column (set_at tables.old.present.extents place) }
     ensures present { OnOk result (tables.new.present ≡ born columns.now tables.old.present place column parent after) }
     ensures items { IfOk result (λ items. items ≡ born_items columns.now tables.old.present.counters.next column parent) }
     ensures earlier { tables.new.earlier ≡ tables.old.earlier }
@@ -373,14 +379,7 @@ fn make(
     items.insert(Item::Live(number))?;
     items.insert(Item::Up(number))?;
     items.insert(Item::Extent(parent, column))?;
-    let set = grown(&tables.extents()[place].set, number)?;
-    let row = SetRow {
-        object: parent,
-        column,
-        live: true,
-        set,
-    };
-    tables.replace_extent(place, row)?;
+    tables.join_extent(place, number)?;
     tables.add_object(ObjectRow {
         number,
         column,
@@ -390,15 +389,6 @@ fn make(
     add_rows(alloc, tables, columns, column, number, &mut items)?;
     tables.count(after);
     Ok(items)
-}
-
-// The set with an object more.
-fn grown(set: &Set, object: u64) -> Result<Set, NoMemory>
-    ensures { IfOk result (λ grown. grown ≡ insert value_cmp (Object object) set.now) }
-{
-    let mut grown = set.copy()?;
-    grown.insert(Value::Object(object))?;
-    Ok(grown)
 }
 
 // The item of a state cell, where its set changes.

@@ -3,7 +3,7 @@ ghost use Rattle.std.specs.Prelude.{◌≡◌, ◌++◌, [], ◌∷◌, IsTrue, 
 ghost use Rattle.sheet_meaning.specs.WellFormed.{HasKind};
 ghost use Rattle.sheet_state.specs.Kept.{IsKept};
 
-use crate::{State, StateRefusal};
+use crate::{State, StateRefusal, Which};
 use sheet_columns::{Column, Columns, Item, Items};
 use sheet_values::{Kind, Name, Set, Value};
 use std::alloc::Global;
@@ -274,5 +274,58 @@ fn a_member_goes_with_the_references(rt: HostRuntime) -> Result<(), Fail> {
         ]
         .as_slice()
     );
+    Ok(())
+}
+
+#[test]
+fn a_seat_goes_before_its_course(rt: HostRuntime) -> Result<(), Fail> {
+    let alloc = rt.alloc();
+    let columns = club(alloc)?;
+    let mut state = seated(alloc, &columns)?;
+    let mark = state.mark();
+    delete(&columns, &mut state, 4)?;
+    let items = delete(&columns, &mut state, 1)?;
+    assert_eq!(rt;
+        items.as_slice(),
+        [
+            Item::Live(1),
+            Item::Up(1),
+            Item::Extent(0, 1),
+            Item::Stored(1, 2),
+            Item::Stored(1, 3),
+        ]
+        .as_slice()
+    );
+    state.undo_to(mark);
+    assert_eq!(rt; state.children(1, 4).len(), 1);
+    assert_eq!(rt; state.cell(4, 5).len(), 1);
+    Ok(())
+}
+
+// Makes that many members.
+fn many(columns: &Columns, state: &mut State, count: u32) -> Result<(), StateRefusal>
+    requires { IsKept columns.now state.old }
+    ensures { IsKept columns.now state.new }
+{
+    for _ in 0..count {
+        make(columns, state, 8, 0)?;
+    }
+    Ok(())
+}
+
+#[test]
+fn there_is_room_for_a_hundred_thousand(rt: HostRuntime) -> Result<(), Fail> {
+    let alloc = rt.alloc();
+    let columns = club(alloc)?;
+    let mut state = State::new(alloc, &columns)?;
+    many(&columns, &mut state, 99_999)?;
+    assert_eq!(rt; state.objects(), 100_000);
+    assert_eq!(rt;
+        make(&columns, &mut state, 8, 0).err(),
+        Some(StateRefusal::Full(Which::Objects, 100_000))
+    );
+    state.forget();
+    delete(&columns, &mut state, 5)?;
+    assert_eq!(rt; make(&columns, &mut state, 8, 0)?.0, 100_000);
     Ok(())
 }

@@ -1,10 +1,9 @@
-use Rattle.std.proofs.Common.{◌≡◌, ◌∙◌, ap, ◌++◌, [], ◌∷◌, get_or}
+use Rattle.std.proofs.Common.{◌≡◌, ◌∙◌, ap, ◌++◌, [], ◌∷◌}
 use Rattle.std.specs.Prelude.{slice_set}
-use Rattle.std.proofs.lemmas.List.{get_or_default}
 use Rattle.sheet_values.specs.Order.{value_cmp}
 use Rattle.sheet_values.specs.Sorted.{insert}
 use Rattle.sheet_values.specs.declared.value.Value.TheVariants.{Object}
-use Rattle.sheet_objects.specs.Rows.{with_objects, with_extents, with_counters}
+use Rattle.sheet_objects.specs.Rows.{with_objects, with_extents, with_counters, joined}
 use Rattle.sheet_objects.specs.declared.row.Counters.{Counters}
 use Rattle.sheet_objects.specs.declared.row.SetRow.{SetRow}
 use Rattle.sheet_meaning.specs.WellFormed.{state_columns}
@@ -22,15 +21,11 @@ returns-clause-present c =
     let scs = state_columns (schema_of c.args.columns.now) k in
     let cols = object_columns c.args.columns.now k in
     let number : n ≡ t.counters.next = ap (λ (x : Counters). x.next) c.counters-number.ensures in
-    let set : c.in_ok-set.set ≡ insert value_cmp (Object n) (set_at t.extents c.args.place) =
-    c.in_ok-set.ensures
-    ∙ ap (λ l. insert value_cmp (Object n) (get_or l c.args.place c.index-extents-place.result).set) c.extents.ensures
-    ∙ ap (λ (r : SetRow). insert value_cmp (Object n) r.set) (get_or_default t.extents c.args.place c.index-extents-place.result _ c.requires) in
     c.count.ensures.present
     ∙ ap (λ u. with_counters u c.args.after)
     (c.in_ok-add_rows.ensures.rows
     ∙ ap (λ u. with_rows u n scs cols)
     (c.in_ok-add_object.ensures.ok
     ∙ ap (λ u. with_objects u (u.objects ++ new_object_row n k p ∷ []))
-    (c.in_ok-replace_extent.ensures.ok ∙ ap (λ s. with_extents t (slice_set t.extents c.args.place (row p k s))) set)))
+    (c.in_ok-join_extent.ensures.ok ∙ ap (λ (r : SetRow). with_extents t (slice_set t.extents c.args.place (joined n r))) c.requires.row)))
     ∙ ap (λ m. with_counters (with_rows (with_objects (with_extents t (slice_set t.extents c.args.place (row p k (insert value_cmp (Object m) (set_at t.extents c.args.place))))) (t.objects ++ new_object_row m k p ∷ [])) m scs cols) c.args.after) number

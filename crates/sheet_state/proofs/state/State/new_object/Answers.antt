@@ -16,6 +16,7 @@ use Rattle.sheet_state.specs.Limits.{first_full, full_of, Refuses}
 use Rattle.sheet_state.specs.Rows.{is_set, moment, state_of, IsSound}
 use Rattle.sheet_state.proofs.Back.{all_push}
 use Rattle.sheet_state.proofs.Lookups.{FirstAt, first_at}
+use Rattle.sheet_state.proofs.SetRows.{row_read}
 use Rattle.sheet_state.proofs.Born.{full_born, state_born, sound_born, moment_born, changed_born, extent_found}
 use Rattle.sheet_state.proofs.state.State.new_object.Goals as goal
 
@@ -53,6 +54,15 @@ unreachable-requires c =
     (subst (λ w. column_in (object_at w.present.state.objects p) ≡ above_of nodes c.args.column) v c.requires.under)
     c.requires.object_column
     (ap (position (is_set p c.args.column)) (sym c.extents.ensures) ∙ sym c.in-None.ensures)
+
+pub create-requires-clause-row : goal.create-requires-clause-row
+create-requires-clause-row c =
+    let p = c.args.parent in
+    let k = c.args.column in
+    let xs = c.self.inside.tables.present.extents in
+    let place = c.in-Some-set_place.place in
+    let f = first_at (is_set p k) xs place (ap (position (is_set p k)) (sym c.extents.ensures) ∙ sym c.in-Some-set_place.ensures) in
+    row_read p k xs place f.0 f.1
 
 row_at : (c : goal.In_ok-items) → (r : SetRow) × FirstAt (is_set c.args.parent c.args.column) c.self.inside.tables.present.extents c.in-Some-set_place.place r
 row_at c = first_at (is_set c.args.parent c.args.column) c.self.inside.tables.present.extents c.in-Some-set_place.place (ap (position (is_set c.args.parent c.args.column)) (sym c.extents.ensures) ∙ sym c.in-Some-set_place.ensures)
