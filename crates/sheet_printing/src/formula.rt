@@ -1,6 +1,7 @@
 // The texts of formulas.
-ghost use Rattle.std.specs.Prelude.{◌≡◌, ◌++◌, map, flat_map, IfOk, OnOk, codes};
+ghost use Rattle.std.specs.Prelude.{ℕ, List, ◌≡◌, ◌++◌, map, flat_map, IfOk, OnOk, codes};
 ghost use Rattle.std.specs.List.{join_by};
+ghost use Rattle.sheet_trees.specs.Texts.{StandsFor, on_one_line};
 ghost use Rattle.sheet_trees.specs.Printing.{formula_text, is_enclosed as is_enclosed_form, operand, opening_text, closing_text, bound_text, operator_text, function_text, quantifier_text, in_parentheses, in_braces};
 
 use crate::words::{
@@ -15,7 +16,16 @@ use std::alloc::Global;
 /// One space stands round each operator of two operands, behind `not` and `if`, round `then` and `else`, and behind each
 /// comma. There is none inside brackets, round a dot, behind a unary `-`, and between a function and its bracket. An operand
 /// that is an `if`, a `not`, a unary `-` or a form with an operator of two operands stands in parentheses.
+///
+/// The text of a formula that some text stands for stands for that formula, in one line.
 pub fn print_formula(alloc: Global, tree: &Tree) -> Result<Vec<u8>, NoMemory>
+    ensures exact { IfOk result (λ text. text.items ≡ formula_text tree.now) }
+    ensures reads_back { IfOk result (λ text. (source : List ℕ) → StandsFor source tree.now → StandsFor text.items (on_one_line tree.now)) }
+{
+    text_of(alloc, tree)
+}
+
+fn text_of(alloc: Global, tree: &Tree) -> Result<Vec<u8>, NoMemory>
     ensures { IfOk result (λ text. text.items ≡ formula_text tree.now) }
 {
     let mut text = Vec::new(alloc);

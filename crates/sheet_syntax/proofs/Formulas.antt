@@ -1,5 +1,5 @@
 -- What is read of a text is what it stands for.
-use Rattle.std.proofs.Common.{Bor, append_assoc, ◌≡◌, ℕ, ◌+◌, ◌-◌, ◌≤◌, ◌<◌, List, [], ◌∷◌, ◌++◌, length, take, drop, Ok, Err, refl, sym, ap, ◌∙◌, subst, arith, length-append, length-drop}
+use Rattle.std.proofs.Common.{Bor, append_assoc, ◌≡◌, ℕ, ◌+◌, ◌-◌, ◌≤◌, ◌<◌, List, [], ◌∷◌, ◌++◌, length, take, drop, Ok, Err, sym, ap, ◌∙◌, subst, arith, length-append, length-drop}
 use Rattle.std.specs.Prelude.{Result, IfOk}
 use Rattle.std.proofs.lemmas.List.{take-append-drop}
 use Rattle.std.proofs.Math.Seq.{take-append_seam, drop-append_seam}
@@ -16,8 +16,11 @@ use Rattle.sheet_trees.proofs.Answering.{ok_then}
 use Rattle.sheet_trees.proofs.Soundness.{Stands, within_sound, whole_sound}
 use Rattle.sheet_trees.proofs.Completeness.{read_whole, whole_given}
 use Rattle.sheet_trees.proofs.Locality.{blocked, taken}
+use Rattle.sheet_trees.proofs.Refusing.{first, first_at, nested, nested_at}
+use Rattle.sheet_tokens.proofs.Ordered.{lexed_order, order_drop}
 use Rattle.sheet_trees.specs.Refusals.{IsBlocked}
-use Rattle.sheet_syntax.specs.Formulas.{StandsFor, Parses, parsed, parsed_at, ParsesAt}
+use Rattle.sheet_trees.specs.Texts.{StandsFor}
+use Rattle.sheet_syntax.specs.Formulas.{Parses, parsed, parsed_at, ParsesAt}
 
 apart : {A : Type 0} (x : A) (d : SyntaxRefusal) → ◌≡◌ {A = Answer A} (Ok x) (Err d) → ⊥
 apart x d e = cc
@@ -37,8 +40,8 @@ pub parses : (text : List ℕ) (r : Result Tree SyntaxRefusal) → Reads (λ t. 
 parses text (Ok e) h = stands text e h
 parses text (Err (BadToken k)) h = none text (BadToken k) h
 parses text (Err (NumberTooWide k)) h = none text (NumberTooWide k) h
-parses text (Err (Expected k)) h = (none text (Expected k) h, λ tokens is. blocked (length text) tokens k (sym (ap (λ r. r >>= (λ tokens. whole_formula (length text) tokens)) is) ∙ h))
-parses text (Err (TooNested k)) h = none text (TooNested k) h
+parses text (Err (Expected k)) h = (none text (Expected k) h, λ tokens is. first (length text) tokens k (lexed_order text tokens is) (sym (ap (λ r. r >>= (λ tokens. whole_formula (length text) tokens)) is) ∙ h))
+parses text (Err (TooNested k)) h = (none text (TooNested k) h, λ tokens is. nested (length text) tokens k (sym (ap (λ r. r >>= (λ tokens. whole_formula (length text) tokens)) is) ∙ h))
 parses text (Err NoMemory) h = tt
 
 pub front_of : (limit room end : ℕ) (ts : List Token) (x : Formed × List Token) → 0 < limit → formula_at limit room end ts ≡ Ok x → Stands limit room expression ts x.0 x.1
@@ -103,8 +106,12 @@ pub parses_at : (tokens : TokenList) (from : ℕ) (r : Result (Tree × ℕ) Synt
 parses_at tokens from (Ok x) within below h = stands_at tokens from x within below h
 parses_at tokens from (Err (BadToken k)) within below h = none_at tokens from (BadToken k) h
 parses_at tokens from (Err (NumberTooWide k)) within below h = none_at tokens from (NumberTooWide k) h
-parses_at tokens from (Err (Expected k)) within below h = (none_at tokens from (Expected k) h, blocked_front tokens from k h)
-parses_at tokens from (Err (TooNested k)) within below h = none_at tokens from (TooNested k) h
+parses_at tokens from (Err (Expected k)) within below h = (
+  none_at tokens from (Expected k) h,
+  blocked_front tokens from k h,
+  λ order. first_at tokens.text_length (drop from tokens.list) k (order_drop from 0 tokens.text_length tokens.list order) (err_front (formula_at 32 32 tokens.text_length (drop from tokens.list)) (Expected k) h),
+)
+parses_at tokens from (Err (TooNested k)) within below h = (none_at tokens from (TooNested k) h, nested_at tokens.text_length (drop from tokens.list) k (err_front (formula_at 32 32 tokens.text_length (drop from tokens.list)) (TooNested k) h))
 parses_at tokens from (Err NoMemory) within below h = tt
 
 abbrev pub read : Formed × Bor (List Token) → Formed × List Token

@@ -1,5 +1,5 @@
 -- Turns of the reader of expressions.
-use Rattle.std.proofs.Common.{◌≡◌, ℕ, zero, suc, ◌-◌, ◌<◌, List, [], ◌∷◌, Err, true, false, refl, sym, ap, ◌∙◌, arith, inl, inr}
+use Rattle.std.proofs.Common.{◌≡◌, ℕ, zero, suc, ◌-◌, ◌<◌, List, [], ◌∷◌, Err, false, refl, ◌∙◌, arith, inl, inr}
 use Rattle.std.proofs.lemmas.Bool.{cases_Bool}
 use Rattle.sheet_tokens.specs.declared.token.Token.{Token}
 use Rattle.sheet_tokens.specs.declared.token.SyntaxRefusal.TheVariants.{Expected}

@@ -1,7 +1,7 @@
 // Makes forms from their parts.
 ghost use Rattle.std.specs.Prelude.{◌≡◌, length, Ok};
 ghost use Rattle.sheet_tokens.specs.Tokens.{Reads};
-ghost use Rattle.sheet_trees.specs.Reading.{gather as gather_form, gather_where as gather_where_form, test as test_form, call as call_form, choice as choice_form, operation as operation_form, steps as steps_from, prefixes as prefixes_of, behind_prefixes, under_prefixes as under_prefixes_of};
+ghost use Rattle.sheet_trees.specs.Reading.{gather as gather_form, gather_where as gather_where_form, test as test_form, call as call_form, operation as operation_form, steps as steps_from, prefixes as prefixes_of, behind_prefixes, under_prefixes as under_prefixes_of};
 ghost use Rattle.sheet_trees.specs.Operators.{prefixed as prefixed_tree};
 
 use crate::front::{after, made, prefix_sign, step};
@@ -77,26 +77,6 @@ pub(crate) fn call(
     made(
         token.start,
         Tree::Call(token.line, function, argument),
-        deepest,
-    )
-}
-
-pub(crate) fn choice(
-    alloc: Global,
-    token: &Token,
-    condition: Formed,
-    then: Formed,
-    other: Formed,
-) -> Result<Formed, SyntaxRefusal>
-    ensures { Reads (λ f. f) result (choice_form 32 token.now condition then other) }
-{
-    let deepest = condition.depth.max(then.depth.max(other.depth));
-    let condition = Boxed::new(alloc, condition.tree)?;
-    let then = Boxed::new(alloc, then.tree)?;
-    let other = Boxed::new(alloc, other.tree)?;
-    made(
-        token.start,
-        Tree::If(token.line, condition, then, other),
         deepest,
     )
 }

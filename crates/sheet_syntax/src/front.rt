@@ -1,5 +1,6 @@
 // What stands at the front of tokens.
-ghost use Rattle.std.specs.Prelude.{◌≡◌, ◌≤◌, ◌+◌, option_map, length, IfOk, Ok};
+ghost use Rattle.std.specs.Prelude.{◌≡◌, ◌≢◌, ◌∷◌, ◌≤◌, ◌+◌, option_map, length, IfOk, IfSome, Ok, None};
+ghost use Rattle.sheet_trees.specs.Signs.{sign_of as sign_of_kind};
 ghost use Rattle.sheet_tokens.specs.Tokens.{Reads};
 ghost use Rattle.sheet_trees.specs.Reading.{offset as offset_of, line_of as line_of_tokens, sign_at as sign_of_first, after as tokens_after, expect as expected, name_at as name_of_first, made as formed, opened as opened_bracket, leaf as leaf_tree, step_of as step_tree, or_expected};
 ghost use Rattle.sheet_trees.specs.Operators.{operator_among as operator_of_level, repeats as level_repeats, prefix_sign as sign_of_prefix};
@@ -14,7 +15,7 @@ use std::alloc::Global;
 pub(crate) const GREATEST_DEPTH: u32 = 32;
 
 /// Where the first token begins, or the text ends.
-pub(crate) fn offset(end: usize, rest: &[Token]) -> usize
+pub fn offset(end: usize, rest: &[Token]) -> usize
     ensures { result ≡ offset_of end rest.now }
 {
     match rest.split_first() {
@@ -23,8 +24,8 @@ pub(crate) fn offset(end: usize, rest: &[Token]) -> usize
     }
 }
 
-/// The line of the first token, or 0.
-pub(crate) fn line_of(rest: &[Token]) -> u32
+/// The line of the first token, or 0 where there is none.
+pub fn line_of(rest: &[Token]) -> u32
     ensures { result ≡ line_of_tokens rest.now }
 {
     match rest.split_first() {
@@ -52,6 +53,19 @@ pub(crate) fn after(sign: Sign, rest: &[Token]) -> Option<&[Token]>
     }
 }
 
+/// A first token "if", and the tokens behind it.
+pub(crate) fn at_if(rest: &[Token]) -> Option<(&Token, &[Token])>
+    ensures found { IfSome result (λ x. (rest.now ≡ x.0.now ∷ x.1.now) × (sign_of_kind x.0.now.kind ≡ Sign.If)) }
+    ensures other { result ≡ None → sign_of_first rest.now ≢ Sign.If }
+{
+    let (token, behind) = rest.split_first()?;
+    if sign_of(&token.kind) == Sign::If {
+        Some((token, behind))
+    } else {
+        None
+    }
+}
+
 pub(crate) fn expect(end: usize, sign: Sign, rest: &[Token]) -> Result<&[Token], SyntaxRefusal>
     ensures { Reads (λ behind. behind.now) result (expected end sign rest.now) }
 {
@@ -61,7 +75,10 @@ pub(crate) fn expect(end: usize, sign: Sign, rest: &[Token]) -> Result<&[Token],
     }
 }
 
-pub(crate) fn name_at(end: usize, rest: &[Token]) -> Result<(Name, &[Token]), SyntaxRefusal>
+/// The name that the first token is, and the tokens behind it.
+///
+/// `Expected` with its offset where it is no name, or with the text's length where there is none.
+pub fn name_at(end: usize, rest: &[Token]) -> Result<(Name, &[Token]), SyntaxRefusal>
     ensures { Reads (λ x. (x.0, x.1.now)) result (name_of_first end rest.now) }
 {
     let Some((token, behind)) = rest.split_first() else {
@@ -76,8 +93,8 @@ pub(crate) fn name_at(end: usize, rest: &[Token]) -> Result<(Name, &[Token]), Sy
     }
 }
 
-/// A form that begins at that offset, whose deepest part has that depth.
-pub(crate) fn made(at: usize, tree: Tree, deepest: u32) -> Result<Formed, SyntaxRefusal>
+/// A form that begins at that offset, whose deepest part has that depth. `TooNested` with that offset where it is 33 deep.
+pub fn made(at: usize, tree: Tree, deepest: u32) -> Result<Formed, SyntaxRefusal>
     ensures { Reads (λ f. f) result (formed 32 at tree deepest) }
 {
     if deepest < GREATEST_DEPTH {
@@ -117,13 +134,9 @@ pub(crate) fn leaf(token: &Token) -> Result<Option<Tree>, SyntaxRefusal>
     }
 }
 
-/// The form of a step from a formula that begins in that line.
-pub(crate) fn step(
-    alloc: Global,
-    line: u32,
-    from: Tree,
-    token: &Token,
-) -> Result<Tree, SyntaxRefusal>
+/// The form of a step from a formula that begins in that line: to the column that the token names, or `up`. `Expected` with
+/// the token's offset where it is neither.
+pub fn step(alloc: Global, line: u32, from: Tree, token: &Token) -> Result<Tree, SyntaxRefusal>
     ensures { Reads (λ t. t) result (or_expected token.now.start (step_tree line from token.now.kind)) }
 {
     match &token.kind {

@@ -5,7 +5,10 @@ mod build;
 mod front;
 mod parser;
 mod read;
+mod waiting;
 
+pub use front::{line_of, made, name_at, offset, step};
+pub use parser::{atom_at, formula_at};
 pub use read::{parse_at, parse_formula};
 pub use sheet_printing::print_formula;
 pub use sheet_tokens::{SyntaxRefusal, Token, TokenKind, Tokens, lex};

@@ -1,16 +1,15 @@
 // Reads formulas from tokens: each reader gives what stands at the front, and the tokens behind it. At most so many
 // brackets may be open (room), and at most so many expressions may stand in each other (turns): one for each token is
 // enough.
-ghost use Rattle.std.specs.Prelude.{◌≡◌, ◌≤◌, ◌-◌, ◌∷◌, [], length, Ok, IfOk};
+ghost use Rattle.std.specs.Prelude.{◌≡◌, ◌≤◌, ◌+◌, ◌-◌, ◌∷◌, [], length, Ok, IfOk};
 ghost use Rattle.sheet_tokens.specs.Tokens.{Reads};
-ghost use Rattle.sheet_trees.specs.Reading.{setting, opened as opened_bracket, closed as closed_gathering, closed_where as closed_gathering_where, gathered as gathered_values, summed as summed_values, tested as tested_values, called as called_function, parts as parts_of_set, braced as braced_form, parenthesised as parenthesised_form, bracketed as bracketed_form, atom as atom_at, postfix as postfix_at, chain_at, operand_at, chosen as chosen_branch, within as within_turns, formula_at as formula_of_tokens, after as tokens_after};
+ghost use Rattle.sheet_trees.specs.Reading.{setting, opened as opened_bracket, closed as closed_gathering, closed_where as closed_gathering_where, gathered as gathered_values, summed as summed_values, tested as tested_values, called as called_function, parts as parts_of_set, braced as braced_form, parenthesised as parenthesised_form, bracketed as bracketed_form, atom as atom_of_tokens, postfix as postfix_at, chain_at, operand_at, within as within_turns, formula_at as formula_of_tokens, after as tokens_after};
 
-use crate::build::{
-    call, choice, gather, gather_where, operation, prefixes, steps, test, under_prefixes,
-};
+use crate::build::{call, gather, gather_where, operation, prefixes, steps, test, under_prefixes};
 use crate::front::{
-    after, expect, leaf, line_of, made, name_at, offset, operator_among, repeats, sign_at,
+    after, at_if, expect, leaf, line_of, made, name_at, offset, operator_among, repeats, sign_at,
 };
+use crate::waiting::{OpenIf, Parts, Resumed, resume};
 use sheet_tokens::{SyntaxRefusal, Token};
 use sheet_trees::{Formed, Function, Gathering, Level, Prefix, Quantifier, Sign, Tree, sign_of};
 use sheet_values::Name;
@@ -34,6 +33,17 @@ impl Room {
             end: self.end,
             brackets: self.brackets.saturating_sub(1),
             turns: self.turns,
+        }
+    }
+
+    // The room behind so many turns.
+    fn after_turns(self, count: usize) -> Room
+        ensures { result ≡ record { end = self.end; brackets = self.brackets; turns = self.turns - count } }
+    {
+        Room {
+            end: self.end,
+            brackets: self.brackets,
+            turns: self.turns.saturating_sub(count),
         }
     }
 }
@@ -299,7 +309,7 @@ fn atom<'a>(
     rest: &'a [Token],
     room: Room,
 ) -> Result<(Formed, &'a [Token]), SyntaxRefusal>
-    ensures { Reads (λ x. (x.0, x.1.now)) result (atom_at (setting 32 room.end room.turns room.brackets) rest.now) }
+    ensures { Reads (λ x. (x.0, x.1.now)) result (atom_of_tokens (setting 32 room.end room.turns room.brackets) rest.now) }
 {
     let Some((token, behind)) = rest.split_first() else {
         return Err(SyntaxRefusal::Expected(room.end));
@@ -400,27 +410,7 @@ fn chain<'a>(
     Ok((formed, remaining))
 }
 
-// Behind "if".
-#[cycle(parser)]
-#[tactic(auto, unfolding(sheet_trees::specs::Reading::chosen))]
-fn chosen<'a>(
-    alloc: Global,
-    token: &Token,
-    rest: &'a [Token],
-    room: Room,
-) -> Result<(Formed, &'a [Token]), SyntaxRefusal>
-    ensures { Reads (λ x. (x.0, x.1.now)) result (chosen_branch (setting 32 room.end room.turns room.brackets) token.now rest.now) }
-{
-    let (condition, rest) = turn(alloc, rest, room)?;
-    let rest = expect(room.end, Sign::Then, rest)?;
-    let (then, rest) = turn(alloc, rest, room)?;
-    let rest = expect(room.end, Sign::Else, rest)?;
-    let (other, rest) = turn(alloc, rest, room)?;
-    let formed = choice(alloc, token, condition, then, other)?;
-    Ok((formed, rest))
-}
-
-// An expression, in one turn less.
+// An expression, in one turn less; an if takes a turn while its parts are read.
 #[cycle(parser)]
 fn turn<'a>(
     alloc: Global,
@@ -429,26 +419,36 @@ fn turn<'a>(
 ) -> Result<(Formed, &'a [Token]), SyntaxRefusal>
     ensures { Reads (λ x. (x.0, x.1.now)) result (within_turns 32 room.end room.turns room.brackets rest.now) }
 {
-    if room.turns == 0 {
-        return Err(SyntaxRefusal::Expected(offset(room.end, rest)));
+    let mut waiting = Vec::new(alloc);
+    let mut remaining = rest;
+    while waiting.len() < room.turns {
+        if let Some((token, behind)) = at_if(remaining) {
+            let (start, line) = (token.start, token.line);
+            let parts = Parts::Nothing;
+            waiting.push(OpenIf { start, line, parts })?;
+            remaining = behind;
+        } else {
+            let inner = room.after_turns(waiting.len() + 1);
+            let (formed, others) = match chain(alloc, Level::Or, remaining, inner) {
+                Ok(read) => read,
+                Err(refusal) => return Err(refusal),
+            };
+            let resumed = match resume(alloc, &mut waiting, formed, others, room) {
+                Ok(resumed) => resumed,
+                Err(refusal) => return Err(refusal),
+            };
+            match resumed {
+                Resumed::Whole(whole) => return Ok((whole, others)),
+                Resumed::Part(behind) => remaining = behind,
+            }
+        }
     }
-    let room = Room {
-        end: room.end,
-        brackets: room.brackets,
-        turns: room.turns - 1,
-    };
-    let Some((token, behind)) = rest.split_first() else {
-        return chain(alloc, Level::Or, rest, room);
-    };
-    if sign_of(&token.kind) == Sign::If {
-        return chosen(alloc, token, behind, room);
-    }
-    chain(alloc, Level::Or, rest, room)
+    Err(SyntaxRefusal::Expected(offset(room.end, remaining)))
 }
 
 /// The formula at the front of tokens, and the tokens behind it.
 #[tactic(auto, unfolding(sheet_trees::specs::Reading::formula_at))]
-pub(crate) fn formula_at<'a>(
+pub fn formula_at<'a>(
     alloc: Global,
     rest: &'a [Token],
     end: usize,
@@ -462,4 +462,21 @@ pub(crate) fn formula_at<'a>(
         turns: rest.len() + 1,
     };
     turn(alloc, rest, room)
+}
+
+/// The formula at the front of tokens that has no operator and no step behind it, and the tokens behind it: one token, or
+/// what stands in brackets. The refusals are those of a whole formula.
+pub fn atom_at<'a>(
+    alloc: Global,
+    rest: &'a [Token],
+    end: usize,
+) -> Result<(Formed, &'a [Token]), SyntaxRefusal>
+    ensures { Reads (λ x. (x.0, x.1.now)) result (atom_of_tokens (setting 32 end (length rest.now + 1) 32) rest.now) }
+{
+    let room = Room {
+        end,
+        brackets: 32,
+        turns: rest.len() + 1,
+    };
+    atom(alloc, rest, room)
 }

@@ -110,6 +110,56 @@ fn precedence(rt: HostRuntime) {
 }
 
 #[test]
+fn neighbouring_levels(rt: HostRuntime) {
+    let alloc = rt.alloc();
+    assert!(rt; prints(alloc, b"a or b and c or d", b"(a or (b and c)) or d"));
+    assert!(rt; prints(alloc, b"a and not b and c", b"(a and (not b)) and c"));
+    assert!(rt; prints(alloc, b"not not a = b", b"not (not (a = b))"));
+    assert!(rt;
+        prints(
+            alloc,
+            b"a union b = c except d",
+            b"(a union b) = (c except d)"
+        )
+    );
+    assert!(rt;
+        prints(
+            alloc,
+            b"a union b + c except d",
+            b"(a union (b + c)) except d"
+        )
+    );
+    assert!(rt; prints(alloc, b"a & b * c - d", b"(a & (b * c)) - d"));
+    assert!(rt; prints(alloc, b"-a % -b / c", b"((-a) % (-b)) / c"));
+    assert!(rt; prints(alloc, b"-a.b", b"-a.b"));
+    assert!(rt;
+        prints(
+            alloc,
+            b"a < b and c >= d or e != f",
+            b"((a < b) and (c >= d)) or (e != f)"
+        )
+    );
+}
+
+#[test]
+fn left_grouping(rt: HostRuntime) {
+    let alloc = rt.alloc();
+    assert!(rt; prints(alloc, b"a or b or c", b"(a or b) or c"));
+    assert!(rt; prints(alloc, b"a and b and c", b"(a and b) and c"));
+    assert!(rt;
+        prints(
+            alloc,
+            b"a union b except c intersect d",
+            b"((a union b) except c) intersect d"
+        )
+    );
+    assert!(rt; prints(alloc, b"a - b + c & d", b"((a - b) + c) & d"));
+    assert!(rt; prints(alloc, b"a / b * c % d", b"((a / b) * c) % d"));
+    assert!(rt; stays(alloc, b"a except (b except c)"));
+    assert!(rt; stays(alloc, b"a / (b / c)"));
+}
+
+#[test]
 fn grouping(rt: HostRuntime) {
     let alloc = rt.alloc();
     assert!(rt; prints(alloc, b"--1", b"-(-1)"));
@@ -145,6 +195,14 @@ fn tokens_of_formulas(rt: HostRuntime) {
     assert!(rt; stays(alloc, b"\"a\\\"\\\\\\n\""));
     assert!(rt; prints(alloc, b"a # no + b\n<=b", b"a <= b"));
     assert!(rt; prints(alloc, b"1!=2", b"1 != 2"));
+    assert!(rt; prints(alloc, b"a>=b", b"a >= b"));
+    assert!(rt; prints(alloc, b"a<-b", b"a < (-b)"));
+    assert!(rt; prints(alloc, b"# only\r\n\tif_ # a name", b"if_"));
+    assert!(rt; refusal(alloc, b"a ! = b") == Some(SyntaxRefusal::BadToken(2)));
+    assert!(rt; refusal(alloc, b"a > = b") == Some(SyntaxRefusal::Expected(4)));
+    assert!(rt; refusal(alloc, b"\"a\\t\"") == Some(SyntaxRefusal::BadToken(0)));
+    assert!(rt; refusal(alloc, b"\"a") == Some(SyntaxRefusal::BadToken(0)));
+    assert!(rt; refusal(alloc, b"01") == Some(SyntaxRefusal::BadToken(0)));
     assert!(rt; refusal(alloc, b"1 +") == Some(SyntaxRefusal::Expected(3)));
     assert!(rt; refusal(alloc, b"1 ? 2") == Some(SyntaxRefusal::BadToken(2)));
     assert!(rt; refusal(alloc, b"9223372036854775808") == Some(SyntaxRefusal::NumberTooWide(0)));
@@ -165,6 +223,45 @@ fn depths(rt: HostRuntime) {
     assert!(rt; repeated_refusal(alloc, b"-", 33, b"") == Some(SyntaxRefusal::Expected(33)));
     assert!(rt; repeated_refusal(alloc, b"a + ", 31, b"a") == None);
     assert!(rt; repeated_refusal(alloc, b"a + ", 32, b"a") == Some(SyntaxRefusal::TooNested(0)));
+}
+
+// How a chain of the loosest ifs is refused: `if 1 then 1 else ` so many times before the last number.
+fn chained_ifs(alloc: Global, count: usize) -> Option<SyntaxRefusal> {
+    repeated_refusal(alloc, b"if 1 then 1 else ", count, b"1")
+}
+
+#[test]
+fn nested_ifs_end(rt: HostRuntime) {
+    let alloc = rt.alloc();
+    assert!(rt; chained_ifs(alloc, 31) == None);
+    assert!(rt; chained_ifs(alloc, 32) == Some(SyntaxRefusal::TooNested(0)));
+    assert!(rt; chained_ifs(alloc, 15_420) == Some(SyntaxRefusal::TooNested(262_140 - 32 * 17)));
+    assert!(rt;
+        repeated_refusal(alloc, b"if ", 87_381, b"") == Some(SyntaxRefusal::Expected(262_143))
+    );
+}
+
+#[test]
+fn nested_negations_end(rt: HostRuntime) {
+    let alloc = rt.alloc();
+    assert!(rt;
+        repeated_refusal(alloc, b"not ", 65_536, b"") == Some(SyntaxRefusal::Expected(262_144))
+    );
+    assert!(rt;
+        repeated_refusal(alloc, b"not ", 65_535, b"a")
+            == Some(SyntaxRefusal::TooNested(262_140 - 32 * 4))
+    );
+}
+
+#[test]
+fn ifs_in_brackets_end(rt: HostRuntime) {
+    let alloc = rt.alloc();
+    assert!(rt;
+        repeated_refusal(alloc, b"if (", 65_536, b"") == Some(SyntaxRefusal::TooNested(131))
+    );
+    assert!(rt;
+        repeated_refusal(alloc, b"if {", 65_536, b"") == Some(SyntaxRefusal::TooNested(131))
+    );
 }
 
 #[test]

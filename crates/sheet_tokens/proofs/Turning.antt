@@ -17,7 +17,7 @@ with_tokens_twice old new t (Ok more) e = ap Ok (sym (ap (λ l. l ++ more) e ∙
 with_tokens_twice old new t (Err r) e = refl
 
 -- bytes without a line feed are passed over
-passed_over : (n : ℕ) (cs : List ℕ) (at line : ℕ) → NoFeed n cs → tokens_from cs at line n ≡ tokens_from (drop n cs) (at + n) line 0
+pub passed_over : (n : ℕ) (cs : List ℕ) (at line : ℕ) → NoFeed n cs → tokens_from cs at line n ≡ tokens_from (drop n cs) (at + n) line 0
 passed_over zero cs at line h = let e : at + 0 ≡ at = omega arith in rw e refl
 passed_over (suc n) [] at line h = absurd h
 passed_over (suc n) (c ∷ cs) at line h =

@@ -1,5 +1,6 @@
 // The tokens of a text.
-ghost use Rattle.std.specs.Prelude.{◌≡◌, ◌≤◌, ◌<◌, ◌+◌, ◌-◌, [], length, drop, List, ℕ};
+ghost use Rattle.std.specs.Prelude.{◌≡◌, ◌≤◌, ◌<◌, ◌+◌, ◌-◌, [], length, drop, List, ℕ, IfOk};
+ghost use Rattle.sheet_tokens.specs.Order.{InOrder};
 ghost use Rattle.sheet_tokens.specs.Tokens.{Reads, lexed, with_tokens, tokens_from};
 ghost use Rattle.sheet_tokens.specs.TokenList.{TokenList};
 ghost use Rattle.sheet_tokens.specs.Lexing.{Goes, list_of};
@@ -45,13 +46,16 @@ fn turn(
     }
 }
 
-/// The tokens of a text of at most 4,294,967,294 bytes: each with its kind, where it starts and ends, and its line.
+/// The tokens of a text of at most 4,294,967,294 bytes, in order: each with its kind, where it starts and ends, and its
+/// line.
 ///
 /// `BadToken` with the offset at which the first token begins that is none, `NumberTooWide` with that of a number
 /// over 9223372036854775807; the first of both.
 pub fn lex(alloc: Global, text: &[u8]) -> Result<Tokens, SyntaxRefusal>
     requires { length text.now ≤ 4294967294 }
-    ensures { Reads list_of result (lexed text.now) }
+    ensures exact { Reads list_of result (lexed text.now) }
+    ensures order { IfOk result (λ tokens. InOrder 0 tokens.text_length tokens.list) }
+    ensures length { IfOk result (λ tokens. tokens.text_length ≡ length text.now) }
 {
     let mut list = Vec::new(alloc);
     let mut rest = text;

@@ -1,12 +1,11 @@
 -- What the small readers tell where they answer.
-use Rattle.std.proofs.Common.{◌≡◌, ℕ, ◌+◌, ◌<◌, ◌≤◌, List, [], ◌∷◌, ◌++◌, true, false, Some, None, Ok, Err, refl, sym, ap, ◌∙◌, subst, arith, append_assoc, inl, inr}
+use Rattle.std.proofs.Common.{◌≡◌, ℕ, ◌+◌, ◌<◌, List, [], ◌∷◌, ◌++◌, true, false, Some, None, Ok, Err, refl, sym, ap, ◌∙◌, arith, append_assoc}
 use Rattle.std.specs.Prelude.{Bool, Option, nat_lt, if◌then◌else◌, ◌==◌}
-use Rattle.std.proofs.lemmas.Bool.{cases_Bool, ltb-true, eqb-true}
+use Rattle.std.proofs.lemmas.Bool.{ltb-true}
 use Rattle.sheet_tokens.specs.declared.token.Token.{Token}
 use Rattle.sheet_tokens.specs.declared.token.TokenKind.{TokenKind}
 use Rattle.sheet_tokens.specs.declared.token.TokenKind.TheVariants as kind
-use Rattle.sheet_tokens.specs.declared.token.SyntaxRefusal.{SyntaxRefusal}
-use Rattle.sheet_tokens.specs.declared.token.SyntaxRefusal.TheVariants.{Expected, TooNested}
+use Rattle.sheet_tokens.specs.declared.token.SyntaxRefusal.TheVariants.{TooNested}
 use Rattle.sheet_trees.specs.declared.sign.Sign.{Sign}
 use Rattle.sheet_trees.specs.declared.tree.Tree.{Tree}
 use Rattle.sheet_trees.specs.declared.tree.Formed.{Formed}

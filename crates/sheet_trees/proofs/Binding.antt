@@ -1,5 +1,5 @@
 -- How tightly signs bind what stands before them, and with which signs formulas begin.
-use Rattle.std.proofs.Common.{◌≡◌, ℕ, ◌<◌, ◌≤◌, List, [], ◌∷◌, ◌++◌, true, false, Some, None, refl, sym, ap, ◌∙◌, subst, arith, inl, inr, eq-eqb}
+use Rattle.std.proofs.Common.{◌≡◌, ℕ, ◌<◌, ◌≤◌, List, [], ◌∷◌, ◌++◌, true, false, Some, None, refl, ap, arith, inl, inr, eq-eqb}
 use Rattle.std.specs.Prelude.{Bool, Option}
 use Rattle.std.proofs.lemmas.Bool.{cases_Bool}
 use Rattle.sheet_tokens.specs.declared.token.Token.{Token}
@@ -16,9 +16,9 @@ use Rattle.sheet_trees.specs.declared.operators.Function.{Function}
 use Rattle.sheet_trees.specs.declared.operators.Quantifier.{Quantifier}
 use Rattle.sheet_trees.specs.declared.tree.Tree.{Tree}
 use Rattle.sheet_trees.specs.Signs.{sign_of, sign_rank, same_sign}
-use Rattle.sheet_trees.specs.Operators.{operator_among, repeats, prefix_sign}
+use Rattle.sheet_trees.specs.Operators.{operator_among, prefix_sign}
 use Rattle.sheet_trees.specs.Grammar.{Nonterminal, expression, chain, negation, unary, postfix, atom, operand, before, prefixing, unprefixed, Form, Produces, a_choice, no_choice, an_operand, an_operation, a_prefix, no_prefix, no_step, a_child, an_up, a_leaf, in_parentheses, no_set, a_set, a_comprehension, a_sum, a_call, a_test, function_of, quantifier_of}
-use Rattle.sheet_trees.specs.Reading.{leaf, leaf_of, sign_at}
+use Rattle.sheet_trees.specs.Reading.{leaf, leaf_of}
 use Rattle.sheet_trees.proofs.SignLemmas.{same_is}
 
 abbrev pub binding : Sign → ℕ

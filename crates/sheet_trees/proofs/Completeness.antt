@@ -1,11 +1,10 @@
 -- Formulas that stand there by the productions, within the limits, are read.
 use Rattle.std.proofs.Common.{append-nil, ◌≡◌, ℕ, zero, suc, ◌+◌, ◌-◌, ◌<◌, ◌≤◌, max, List, [], ◌∷◌, ◌++◌, length, true, false, Some, None, Ok, Err, refl, sym, ap, ◌∙◌, subst, arith, append_assoc, length-append, inl, inr}
-use Rattle.std.specs.Prelude.{Bool, Option, nat_lt, if◌then◌else◌, ◌==◌, ◌⊎◌}
-use Rattle.std.proofs.lemmas.Bool.{cases_Bool, lt-ltb}
+use Rattle.std.specs.Prelude.{Bool, Option, ◌==◌, ◌⊎◌}
+use Rattle.std.proofs.lemmas.Bool.{lt-ltb}
 use Rattle.sheet_tokens.specs.declared.token.Token.{Token}
 use Rattle.sheet_tokens.specs.declared.token.TokenKind.{TokenKind}
 use Rattle.sheet_tokens.specs.declared.token.TokenKind.TheVariants as kind
-use Rattle.sheet_tokens.specs.declared.token.SyntaxRefusal.TheVariants.{Expected, TooNested}
 use Rattle.sheet_trees.specs.declared.sign.Sign.{Sign}
 use Rattle.sheet_trees.specs.declared.sign.Sign.TheVariants as sign
 use Rattle.sheet_trees.specs.declared.operators.Operator.{Operator}
@@ -32,10 +31,10 @@ use Rattle.sheet_trees.proofs.Soundness.{Begins, nonempty}
 abbrev pub formed : Form → Formed
 formed f = record { tree = f.tree; depth = f.depth }
 
-bind : {A B : Type 0} (r : Answer A) (x : A) (k : A → Answer B) → ◌≡◌ {A = Answer A} r (Ok x) → ◌≡◌ {A = Answer B} (r >>= k) (k x)
+pub bind : {A B : Type 0} (r : Answer A) (x : A) (k : A → Answer B) → ◌≡◌ {A = Answer A} r (Ok x) → ◌≡◌ {A = Answer B} (r >>= k) (k x)
 bind r x k e = ap (λ r. r >>= k) e
 
-made_given : (limit at : ℕ) (e : Tree) (deepest : ℕ) → deepest < limit → ◌≡◌ {A = Answer Formed} (made limit at e deepest) (Ok (record { tree = e; depth = deepest + 1 }))
+pub made_given : (limit at : ℕ) (e : Tree) (deepest : ℕ) → deepest < limit → ◌≡◌ {A = Answer Formed} (made limit at e deepest) (Ok (record { tree = e; depth = deepest + 1 }))
 made_given limit at e deepest h = let test = lt-ltb deepest limit h in rw test refl
 
 expect_given : (end : ℕ) (s : Sign) (t : Token) (rest : List Token) → sign_of t.kind ≡ s → ◌≡◌ {A = Answer (List Token)} (expect end s (t ∷ rest)) (Ok rest)
@@ -275,7 +274,7 @@ step_dot limit end at line f d t rest e dot step fits =
     let test = same_self (sign_of d.kind) sign.Dot dot in
     rw (test, step) (bind (made limit at e f.depth) (record { tree = e; depth = f.depth + 1 }) (λ g. reading.steps limit end at line g rest) (made_given limit at e f.depth fits))
 
-up_step : (line : ℕ) (e : Tree) (t : Token) → sign_of t.kind ≡ sign.Up → reading.step_of line e t.kind ≡ Some (tree.Up line e)
+pub up_step : (line : ℕ) (e : Tree) (t : Token) → sign_of t.kind ≡ sign.Up → reading.step_of line e t.kind ≡ Some (tree.Up line e)
 up_step line e t is = up_kind line e t.kind is where
   up_kind : (line : ℕ) (e : Tree) (k : TokenKind) → sign_of k ≡ sign.Up → reading.step_of line e k ≡ Some (tree.Up line e)
   up_kind line e (kind.Name name) is = let wrong : ⊥ = cc in absurd wrong
@@ -562,7 +561,7 @@ unfolding reading.postfix
 no_step_claim ts f claim limit end turns room deep narrow short rest =
     bind (reading.atom (setting limit end turns room) (ts ++ rest)) (formed f, rest) (λ x. reading.steps limit end (offset end (ts ++ rest)) (line_of (ts ++ rest)) x.0 x.1) (claim limit end turns room deep narrow short rest)
 
-named_step : (line : ℕ) (e : Tree) (t : Token) (name : List ℕ) → t.kind ≡ kind.Name name → reading.step_of line e t.kind ≡ Some (tree.Child line e name)
+pub named_step : (line : ℕ) (e : Tree) (t : Token) (name : List ℕ) → t.kind ≡ kind.Name name → reading.step_of line e t.kind ≡ Some (tree.Child line e name)
 named_step line e t name named = rw named refl
 
 step_claim : (d t : Token) (ts : List Token) (f : Form) (e : Tree) → Begins ts → Claim postfix ts f → sign_of d.kind ≡ sign.Dot → reading.step_of (line_of ts) f.tree t.kind ≡ Some e
@@ -692,9 +691,13 @@ mutual
 
 -- ---- whole formulas
 
-read_before : (ts : List Token) (f : Form) → Produces expression ts f → (limit end turns room : ℕ) → f.depth ≤ limit → f.nest ≤ room → length ts < turns → (rest : List Token) → 6 < binding (sign_at rest)
+pub read_before : (ts : List Token) (f : Form) → Produces expression ts f → (limit end turns room : ℕ) → f.depth ≤ limit → f.nest ≤ room → length ts < turns → (rest : List Token) → 6 < binding (sign_at rest)
     → reading.within limit end turns room (ts ++ rest) ≡ Ok (formed f, rest)
 read_before ts f p limit end turns room deep narrow short rest h = within_given ts f (complete expression ts f p) limit end turns room deep narrow short rest h
+
+pub atom_before : (ts : List Token) (f : Form) → Produces atom ts f → (limit end turns room : ℕ) → f.depth ≤ limit → f.nest ≤ room → length ts ≤ turns → (rest : List Token)
+    → reading.atom (setting limit end turns room) (ts ++ rest) ≡ Ok (formed f, rest)
+atom_before ts f p limit end turns room deep narrow short rest = complete atom ts f p limit end turns room deep narrow short rest
 
 pub read_whole : (ts : List Token) (f : Form) → Produces expression ts f → (limit end room : ℕ) → f.depth ≤ limit → f.nest ≤ room → reading.formula_at limit room end ts ≡ Ok (formed f, [])
 unfolding reading.formula_at

@@ -27,7 +27,7 @@ use Rattle.sheet_trees.specs.Signs.{sign_of, same_sign}
 use Rattle.sheet_trees.specs.Reading as reading
 use Rattle.sheet_trees.specs.Reading.{Answer, Reader, ◌>>=◌, Setting, setting, offset, line_of, sign_at, after, expect, name_at, with_rest, made, opened}
 use Rattle.sheet_trees.proofs.Answering.{ok_then, rest_ok, made_ok}
-use Rattle.sheet_trees.proofs.Binding.{same_self, other_sign, leafless}
+use Rattle.sheet_trees.proofs.Binding.{same_self, leafless}
 use Rattle.sheet_trees.specs.declared.operators.Function.TheVariants as function
 use Rattle.sheet_trees.specs.declared.operators.Quantifier.TheVariants as quantifier
 use Rattle.sheet_trees.specs.Reading.{leaf}
@@ -1459,13 +1459,13 @@ none_begins : (front rest : List Token) → ((rest' : List Token) → Same rest 
 none_begins front [] h = λ f p. let P : List Token → Type 0 = λ l. Produces expression l f in h [] refl f (subst P (sym (append-nil front)) p)
 none_begins front (t ∷ rest) h = λ behind f p. h (t ∷ behind) refl f p
 
-blocked_at : (end : ℕ) (ts : List Token) (o : ℕ) → reading.formula_at 32 32 end ts ≡ Err (Expected o) → IsBlocked end ts o
+pub blocked_at : (end : ℕ) (ts : List Token) (o : ℕ) → reading.formula_at 32 32 end ts ≡ Err (Expected o) → IsBlocked end ts o
 unfolding reading.formula_at
 blocked_at end ts o h =
     let r = (within_local end (length ts + 1) 32 32 ts (omega arith)).refused o h in
     record { front = r.front; rest = r.rest; split = r.split; here = r.here; none = none_begins r.front r.rest (none_whole end 32 32 r.front r.rest ts o r.split r.again) }
 
-blocked_behind : (end : ℕ) (ts : List Token) (o : ℕ) (x : Formed) (t : Token) (rest : List Token) → o ≡ t.start → reading.formula_at 32 32 end ts ≡ Ok (x, t ∷ rest) → IsBlocked end ts o
+pub blocked_behind : (end : ℕ) (ts : List Token) (o : ℕ) (x : Formed) (t : Token) (rest : List Token) → o ≡ t.start → reading.formula_at 32 32 end ts ≡ Ok (x, t ∷ rest) → IsBlocked end ts o
 unfolding reading.formula_at
 blocked_behind end ts o x t rest at h =
     let g = (within_local end (length ts + 1) 32 32 ts (omega arith)).given x (t ∷ rest) h in

@@ -1,5 +1,5 @@
 -- Signs are told apart by their numbers.
-use Rattle.std.proofs.Common.{◌≡◌, ℕ, List, [], ◌∷◌, get_or, true, false, refl, sym, ap, ◌∙◌}
+use Rattle.std.proofs.Common.{◌≡◌, ℕ, List, [], ◌∷◌, get_or, true, refl, sym, ap, ◌∙◌}
 use Rattle.std.proofs.lemmas.Bool.{eqb-true}
 use Rattle.sheet_trees.specs.declared.sign.Sign.{Sign}
 use Rattle.sheet_trees.specs.declared.sign.Sign.TheVariants as sign

@@ -1,6 +1,6 @@
 -- What the readers answer stands there by the productions.
 use Rattle.std.proofs.Common.{◌≡◌, ℕ, zero, suc, ◌+◌, ◌-◌, ◌<◌, ◌≤◌, max, List, [], ◌∷◌, ◌++◌, length, true, false, Some, None, Ok, Err, refl, sym, ap, ◌∙◌, subst, arith, append_assoc, append-nil, inl, inr}
-use Rattle.std.specs.Prelude.{Bool, Option, nat_lt, if◌then◌else◌, ◌==◌, ◌⊎◌}
+use Rattle.std.specs.Prelude.{Bool, Option, if◌then◌else◌, ◌==◌, ◌⊎◌}
 use Rattle.std.proofs.lemmas.Bool.{cases_Bool}
 use Rattle.sheet_tokens.specs.declared.token.Token.{Token}
 use Rattle.sheet_tokens.specs.declared.token.TokenKind.{TokenKind}
@@ -22,7 +22,7 @@ use Rattle.sheet_trees.specs.declared.tree.Tree.TheVariants as tree
 use Rattle.sheet_trees.specs.declared.tree.Formed.{Formed}
 use Rattle.sheet_trees.specs.Signs.{sign_of, same_sign}
 use Rattle.sheet_trees.specs.Operators.{operator_among, repeats, prefix_sign, prefixed}
-use Rattle.sheet_trees.specs.Grammar.{Nonterminal, expression, chain, negation, unary, postfix, atom, operand, before, prefixing, unprefixed, Form, form, Parts, function_of, quantifier_of, IsFormula, Produces, AreParts, Gathers, a_choice, no_choice, an_operand, an_operation, a_prefix, no_prefix, no_step, a_child, an_up, a_leaf, in_parentheses, no_set, a_set, a_comprehension, a_sum, a_call, a_test, one_part, more_parts, all_values, chosen_values}
+use Rattle.sheet_trees.specs.Grammar.{Nonterminal, expression, chain, postfix, atom, operand, before, prefixing, unprefixed, Form, form, Parts, function_of, quantifier_of, IsFormula, Produces, AreParts, Gathers, a_choice, no_choice, an_operand, an_operation, a_prefix, no_prefix, no_step, a_child, an_up, a_leaf, in_parentheses, no_set, a_set, a_comprehension, a_sum, a_call, a_test, one_part, more_parts, all_values, chosen_values}
 use Rattle.sheet_trees.specs.Reading as reading
 use Rattle.sheet_trees.specs.Reading.{Answer, Reader, ◌>>=◌, Setting, offset, line_of, after, expect, name_at, with_rest, made, opened, leaf}
 use Rattle.sheet_trees.proofs.SignLemmas.{same_is}
@@ -339,7 +339,7 @@ leaf_or_sound s deep inner t ts y (Some e) is h =
     subst P same (record { front = t ∷ []; nest = 0; split = refl; produced = a_leaf t e is; shallow = deep; narrow = omega arith })
 leaf_or_sound s deep inner t ts y None is h = bracketed_sound s inner t ts y (sign_of t.kind) refl h
 
-atom_sound : (s : Setting) → 0 < s.limit → Sound s.limit (s.room - 1) expression s.inner → Sound s.limit s.room atom (reading.atom s)
+pub atom_sound : (s : Setting) → 0 < s.limit → Sound s.limit (s.room - 1) expression s.inner → Sound s.limit s.room atom (reading.atom s)
 unfolding reading.atom
 atom_sound s deep inner [] y e = let wrong : ⊥ = cc in absurd wrong
 atom_sound s deep inner (t ∷ ts) y e = leaf_or_sound s deep inner t ts y (leaf t.line t.kind) refl e
@@ -375,7 +375,7 @@ nonempty _ _ _ (a_test w o n i b c q name ss ps x p a1 a2 a3 a4 a5 a6 a7 a8) = r
 
 -- ---- steps
 
-dotted : {A : Type 0} (b : Bool) (x y : Answer A) (z : A) → ◌≡◌ {A = Answer A} (if b then x else y) (Ok z) → ((b ≡ true) × (◌≡◌ {A = Answer A} x (Ok z))) ⊎ ((b ≡ false) × (◌≡◌ {A = Answer A} y (Ok z)))
+pub dotted : {A : Type 0} (b : Bool) (x y : Answer A) (z : A) → ◌≡◌ {A = Answer A} (if b then x else y) (Ok z) → ((b ≡ true) × (◌≡◌ {A = Answer A} x (Ok z))) ⊎ ((b ≡ false) × (◌≡◌ {A = Answer A} y (Ok z)))
 dotted true x y z e = inl (refl, e)
 dotted false x y z e = inr (refl, e)
 
@@ -383,14 +383,14 @@ up_told : (b : Bool) (line : ℕ) (e form : Tree) → (if b then Some (tree.Up l
 up_told true line e form h = (refl, cc)
 up_told false line e form h = let wrong : ⊥ = cc in absurd wrong
 
-step_told : (line : ℕ) (e : Tree) (k : TokenKind) (form : Tree) → reading.step_of line e k ≡ Some form → ((name : List ℕ) × (k ≡ kind.Name name) × (form ≡ tree.Child line e name)) ⊎ ((sign_of k ≡ sign.Up) × (form ≡ tree.Up line e))
+pub step_told : (line : ℕ) (e : Tree) (k : TokenKind) (form : Tree) → reading.step_of line e k ≡ Some form → ((name : List ℕ) × (k ≡ kind.Name name) × (form ≡ tree.Child line e name)) ⊎ ((sign_of k ≡ sign.Up) × (form ≡ tree.Up line e))
 step_told line e (kind.Name name) form h = inl (name, refl, cc)
 step_told line e (kind.Reserved word) form h = let (test, is) = up_told (same_sign (sign_of (kind.Reserved word)) sign.Up) line e form h in inr (same_is (sign_of (kind.Reserved word)) sign.Up test, is)
 step_told line e (kind.Number n) form h = let wrong : ⊥ = cc in absurd wrong
 step_told line e (kind.Text x) form h = let wrong : ⊥ = cc in absurd wrong
 step_told line e (kind.Symbol x) form h = let (test, is) = up_told (same_sign (sign_of (kind.Symbol x)) sign.Up) line e form h in inr (same_is (sign_of (kind.Symbol x)) sign.Up test, is)
 
-step_produced : (h d t : Token) (hs : List Token) (f : Formed) (nest : ℕ) (e : Tree) → Produces postfix (h ∷ hs) (form f.tree f.depth nest) → sign_of d.kind ≡ sign.Dot → reading.step_of h.line f.tree t.kind ≡ Some e
+pub step_produced : (h d t : Token) (hs : List Token) (f : Formed) (nest : ℕ) (e : Tree) → Produces postfix (h ∷ hs) (form f.tree f.depth nest) → sign_of d.kind ≡ sign.Dot → reading.step_of h.line f.tree t.kind ≡ Some e
     → Produces postfix ((h ∷ hs) ++ d ∷ t ∷ []) (form e (f.depth + 1) nest)
 step_produced h d t hs f nest e p dot step =
     let P : Tree → Type 0 = λ z. Produces postfix ((h ∷ hs) ++ d ∷ t ∷ []) (form z (f.depth + 1) nest) in
@@ -430,7 +430,7 @@ steps_sound limit room end at h hs f nest p deep narrow (d ∷ t ∷ ts) y e =
       | inr (test, r) ↦ (let same : (f, d ∷ t ∷ ts) ≡ y = cc in subst P same (record { front = h ∷ hs; nest = nest; split = refl; produced = p; shallow = deep; narrow = narrow }))
     ]
 
-postfix_sound : (s : Setting) → 0 < s.limit → Sound s.limit (s.room - 1) expression s.inner → Sound s.limit s.room postfix (reading.postfix s)
+pub postfix_sound : (s : Setting) → 0 < s.limit → Sound s.limit (s.room - 1) expression s.inner → Sound s.limit s.room postfix (reading.postfix s)
 unfolding reading.postfix
 postfix_sound s deep inner ts y e =
     let (x, ex, e1) = ok_then (reading.atom s ts) (λ x. reading.steps s.limit s.end (offset s.end ts) (line_of ts) x.0 x.1) y e in
@@ -446,7 +446,7 @@ postfix_sound s deep inner ts y e =
 
 -- ---- prefixes
 
-under_sound : (limit room : ℕ) (p : Prefix) (x : Formed) (rest : List Token) (ts : List Token) (f : Formed) → reading.under_prefixes limit p (reading.prefixes p ts) (Ok x) ≡ Ok f
+pub under_sound : (limit room : ℕ) (p : Prefix) (x : Formed) (rest : List Token) (ts : List Token) (f : Formed) → reading.under_prefixes limit p (reading.prefixes p ts) (Ok x) ≡ Ok f
     → Stands limit room (unprefixed p) (reading.behind_prefixes p ts) x rest → Stands limit room (prefixing p) ts f rest
 unfolding reading.under_prefixes reading.prefixes reading.behind_prefixes
 under_sound limit room p x rest [] f e s =
@@ -478,7 +478,7 @@ under_sound limit room p x rest (t ∷ ts) f e s =
           → Stands limit room (unprefixed p) (if same_sign (sign_of t.kind) (prefix_sign p) then reading.behind_prefixes p ts else t ∷ ts) x rest → Stands limit room (unprefixed p) (t ∷ ts) x rest
       under_front limit room p x rest t ts test s = let P : Bool → Type 0 = λ b. Stands limit room (unprefixed p) (if b then reading.behind_prefixes p ts else t ∷ ts) x rest in subst P test s
 
-prefixes_sound : (s : Setting) (p : Prefix) (operand : Reader) → Sound s.limit s.room (unprefixed p) operand → Sound s.limit s.room (prefixing p) (reading.with_prefixes s p operand)
+pub prefixes_sound : (s : Setting) (p : Prefix) (operand : Reader) → Sound s.limit s.room (unprefixed p) operand → Sound s.limit s.room (prefixing p) (reading.with_prefixes s p operand)
 unfolding reading.with_prefixes
 prefixes_sound s p operand inner ts y e =
     let (x, ex, e1) = ok_then (operand (reading.behind_prefixes p ts)) (λ x. with_rest x.1 (reading.under_prefixes s.limit p (reading.prefixes p ts) (Ok x.0))) y e in
@@ -488,7 +488,7 @@ prefixes_sound s p operand inner ts y e =
 
 -- ---- levels of operators
 
-before_chain : (l : Level) (ts : List Token) (f : Form) → Produces (before l) ts f → Produces (chain l) ts f
+pub before_chain : (l : Level) (ts : List Token) (f : Form) → Produces (before l) ts f → Produces (chain l) ts f
 before_chain level.Or ts f p = p
 before_chain level.And ts f p = p
 before_chain level.Comparison ts f p = an_operand level.Comparison ts f p
@@ -496,7 +496,7 @@ before_chain level.Sets ts f p = p
 before_chain level.Sums ts f p = p
 before_chain level.Products ts f p = p
 
-operand_before : (l : Level) (ts : List Token) (f : Form) → Produces (operand l) ts f → Produces (before l) ts f
+pub operand_before : (l : Level) (ts : List Token) (f : Form) → Produces (operand l) ts f → Produces (before l) ts f
 operand_before level.Or ts f p = an_operand level.Or ts f p
 operand_before level.And ts f p = an_operand level.And ts f p
 operand_before level.Comparison ts f p = p
@@ -504,7 +504,7 @@ operand_before level.Sets ts f p = an_operand level.Sets ts f p
 operand_before level.Sums ts f p = an_operand level.Sums ts f p
 operand_before level.Products ts f p = an_operand level.Products ts f p
 
-chain_before : (l : Level) (ts : List Token) (f : Form) → repeats l ≡ true → Produces (chain l) ts f → Produces (before l) ts f
+pub chain_before : (l : Level) (ts : List Token) (f : Form) → repeats l ≡ true → Produces (chain l) ts f → Produces (before l) ts f
 chain_before level.Or ts f again p = p
 chain_before level.And ts f again p = p
 chain_before level.Comparison ts f again p = let wrong : ⊥ = cc in absurd wrong
@@ -512,7 +512,7 @@ chain_before level.Sets ts f again p = p
 chain_before level.Sums ts f again p = p
 chain_before level.Products ts f again p = p
 
-operation_sound : (s : Setting) (l : Level) (p : Reader) → Sound s.limit s.room (operand l) p → (at : ℕ) (h o : Token) (hs : List Token) (f : Formed) (nest : ℕ) (op : Operator) → Produces (before l) (h ∷ hs) (form f.tree f.depth nest)
+pub operation_sound : (s : Setting) (l : Level) (p : Reader) → Sound s.limit s.room (operand l) p → (at : ℕ) (h o : Token) (hs : List Token) (f : Formed) (nest : ℕ) (op : Operator) → Produces (before l) (h ∷ hs) (form f.tree f.depth nest)
     → nest ≤ s.room → operator_among l (sign_of o.kind) ≡ Some op → (ts : List Token) (y : Formed × List Token) → reading.operand_behind s p at h.line op f ts ≡ Ok y → Stands s.limit s.room (chain l) ((h ∷ hs) ++ o ∷ ts) y.0 y.1
 operation_sound s l p inner at h o hs f nest op pf narrow is ts y e =
     let (x, ex, e1) = ok_then (p ts) (λ x. with_rest x.1 (reading.operation s.limit at h.line op f x.0)) y e in
@@ -577,7 +577,7 @@ chain_sound s l p inner ts y e =
 
 -- ---- all of it
 
-disjunction_sound : (s : Setting) → 0 < s.limit → Sound s.limit (s.room - 1) expression s.inner → Sound s.limit s.room (chain level.Or) (reading.disjunction s)
+pub disjunction_sound : (s : Setting) → 0 < s.limit → Sound s.limit (s.room - 1) expression s.inner → Sound s.limit s.room (chain level.Or) (reading.disjunction s)
 unfolding reading.disjunction reading.conjunction reading.negation reading.comparison reading.sets reading.sums reading.products reading.unary
 disjunction_sound s deep inner =
     chain_sound s level.Or _ (chain_sound s level.And _ (prefixes_sound s prefix.Not _ (chain_sound s level.Comparison _ (chain_sound s level.Sets _ (chain_sound s level.Sums _ (chain_sound s level.Products _
@@ -586,7 +586,7 @@ disjunction_sound s deep inner =
 or_stands : (limit room : ℕ) (ts : List Token) (f : Formed) (rest : List Token) → Stands limit room (chain level.Or) ts f rest → Stands limit room expression ts f rest
 or_stands limit room ts f rest s = record { front = s.front; nest = s.nest; split = s.split; produced = no_choice s.front (form f.tree f.depth s.nest) s.produced; shallow = s.shallow; narrow = s.narrow }
 
-expression_sound : (s : Setting) → 0 < s.limit → Sound s.limit (s.room - 1) expression s.inner → Sound s.limit s.room expression s.nested → Sound s.limit s.room expression (reading.expression s)
+pub expression_sound : (s : Setting) → 0 < s.limit → Sound s.limit (s.room - 1) expression s.inner → Sound s.limit s.room expression s.nested → Sound s.limit s.room expression (reading.expression s)
 unfolding reading.expression
 expression_sound s deep inner nested [] y e = or_stands s.limit s.room [] y.0 y.1 (disjunction_sound s deep inner [] y e)
 expression_sound s deep inner nested (t ∷ ts) y e =

@@ -1,5 +1,5 @@
 -- The productions of formulas: which tokens stand for which tree.
-use Rattle.std.specs.Prelude.{◌≡◌, ℕ, ◌+◌, ◌≤◌, max, List, [], ◌∷◌, ◌++◌, true, Option, Some, None}
+use Rattle.std.specs.Prelude.{◌≡◌, ℕ, ◌+◌, ◌≤◌, max, List, [], ◌∷◌, ◌++◌, Option, Some, None}
 use Rattle.sheet_tokens.specs.declared.token.Token.{Token}
 use Rattle.sheet_tokens.specs.declared.token.TokenKind.TheVariants as kind
 use Rattle.sheet_trees.specs.declared.sign.Sign.{Sign}
@@ -18,7 +18,7 @@ use Rattle.sheet_trees.specs.declared.operators.Quantifier.TheVariants as quanti
 use Rattle.sheet_trees.specs.declared.tree.Tree.{Tree}
 use Rattle.sheet_trees.specs.declared.tree.Tree.TheVariants as tree
 use Rattle.sheet_trees.specs.Signs.{sign_of}
-use Rattle.sheet_trees.specs.Operators.{operator_among, repeats, prefix_sign, prefixed}
+use Rattle.sheet_trees.specs.Operators.{operator_among, prefix_sign, prefixed}
 use Rattle.sheet_trees.specs.Reading.{line_of, leaf}
 
 -- the nonterminals

@@ -4,3 +4,4 @@ pub mod Printing
 pub mod Reading
 pub mod Refusals
 pub mod Signs
+pub mod Texts

@@ -7,8 +7,9 @@ mod sign;
 mod tree;
 
 pub use law::{
-    refused_tokens_begin_no_formula, tokens_are_taken_as_long_as_they_begin_a_formula,
-    tokens_stand_for_one_tree,
+    refused_tokens_begin_no_formula, tokens_are_refused_at_the_first_that_goes_on_with_no_formula,
+    tokens_are_taken_as_long_as_they_begin_a_formula, tokens_stand_for_one_tree,
+    what_is_nested_too_deeply_is_a_bracket_or_a_form,
 };
 pub use operators::{Function, Gathering, Level, Operator, Prefix, Quantifier};
 pub use sign::{Sign, sign_of};

@@ -1,7 +1,5 @@
-use Rattle.std.proofs.Common.{◌≡◌, [], List, Ok, Err, sym, ap, ◌∙◌, refl}
-use Rattle.sheet_tokens.specs.declared.token.Token.{Token}
+use Rattle.std.proofs.Common.{Ok, sym, ap, ◌∙◌}
 use Rattle.sheet_trees.specs.Reading.{made, under_prefixes}
-use Rattle.sheet_trees.specs.Operators.{prefixed}
 use Rattle.sheet_syntax.proofs.Loops.{passed, under_last, under_refused, no_tokens, same_ok}
 use Rattle.sheet_syntax.proofs.build.under_prefixes.Goals as goal
 

@@ -1,4 +1,4 @@
-use Rattle.std.proofs.Common.{◌≡◌, rules, true, Some, refl, sym, ap, ◌∙◌, List, ◌∷◌, eq-eqb}
+use Rattle.std.proofs.Common.{◌≡◌, rules, true, Some, refl, sym, ◌∙◌, List, ◌∷◌, eq-eqb}
 use denote.Enum.Bare.{same_true}
 use Rattle.sheet_tokens.specs.declared.token.Token.{Token}
 use Rattle.sheet_trees.specs.declared.sign.Sign.{Sign}

@@ -1,20 +1,18 @@
-use Rattle.std.proofs.Common.{Bor, rules, ◌≡◌, ℕ, suc, ◌+◌, ◌-◌, ◌<◌, ◌∷◌, [], ◌++◌, List, length, Some, None, Ok, Err, true, false, sym, ap, ◌∙◌, subst, refl, arith}
-use denote.Enum.Bare.{same_true, same_false}
+use Rattle.std.proofs.Common.{Bor, ◌≡◌, ◌+◌, ◌-◌, ◌<◌, ◌≤◌, ◌∷◌, [], ◌++◌, List, length, Some, None, Ok, Err, sym, ap, ◌∙◌, subst, refl, arith}
 use Rattle.sheet_tokens.specs.declared.token.Token.{Token}
-use Rattle.sheet_tokens.specs.Tokens.{Reads}
-use Rattle.sheet_trees.specs.contracts.sign.Sign.{the_type}
 use Rattle.sheet_trees.specs.declared.tree.Formed.{Formed}
 use Rattle.sheet_tokens.specs.declared.token.SyntaxRefusal.TheVariants.{Expected}
 use Rattle.sheet_syntax.specs.declared.parser.Room.{Room}
-use Rattle.sheet_trees.specs.declared.operators.Operator.{Operator}
-use Rattle.sheet_trees.specs.declared.sign.Sign.{Sign}
-use Rattle.sheet_trees.specs.declared.sign.Sign.TheVariants as sign
-use Rattle.sheet_trees.specs.Signs.{sign_of, same_sign}
-use Rattle.sheet_trees.specs.Operators.{operator_among, repeats}
-use Rattle.sheet_trees.specs.Reading.{Answer, Setting, setting, operand_at, chain_at, offset, line_of, more, with_rest, within, parts, operation}
+use Rattle.sheet_trees.specs.Signs.{sign_of}
+use Rattle.sheet_trees.specs.Operators.{operator_among}
+use Rattle.sheet_trees.specs.Reading.{setting, operand_at, chain_at, with_rest, within, parts, operation}
 use Rattle.sheet_syntax.proofs.Loops.{passed, no_tokens}
 use Rattle.sheet_syntax.proofs.Chains.{one_less, chain_refused, chain_begun, more_out, more_end, more_other, more_refused, more_too_deep, more_on, more_once, parts_out, parts_closed, parts_refused, parts_stopped, parts_on}
-use Rattle.sheet_syntax.proofs.Turns.{turn_over, turn_if, turn_or, turn_none, other_sign}
+use Rattle.sheet_trees.specs.declared.operators.Level.TheVariants as level
+use Rattle.sheet_syntax.specs.declared.waiting.OpenIf.{OpenIf}
+use Rattle.sheet_syntax.specs.declared.waiting.Resumed.{Resumed}
+use Rattle.sheet_syntax.specs.Waiting.{resumed_by, Resumes}
+use Rattle.sheet_syntax.proofs.Ifs.{begun, no_turns, turned, turn_refused, chain_shorter, resume_refused, shorter_still, whole_told}
 use Rattle.sheet_syntax.proofs.parser.+parser.Goals as goal
 
 abbrev read : Formed × Bor (List Token) → Formed × List Token
@@ -126,25 +124,59 @@ parts-returns t c =
     let s = setting 32 c.args.room.end c.args.room.turns c.args.room.brackets in
     sym c.loop.invariant ∙ parts_out s (length c.args.rest.now - c.loop.counter) c.args.token.now c.loop.trees c.loop.deepest c.loop.remaining.now (omega (arith, c.loop-test.false)) ∙ ap (λ o. Err (Expected o)) (sym c.offset.ensures)
 
-pub turn-returns-then-room-eq0 : goal.turn-returns-then-room-eq0
-turn-returns-then-room-eq0 t c = turn_over 32 c.args.room.end c.args.room.turns c.args.room.brackets c.args.rest.now c.if-room-eq0.true ∙ ap (λ o. Err (Expected o)) (sym c.offset.ensures)
+pub turn-loop-alloc-preserved-in-Some : goal.turn-loop-alloc-preserved-in-Some
+turn-loop-alloc-preserved-in-Some t c =
+    let P : List OpenIf → Type 0 = λ ws. resumed_by c.args.room.end c.args.room.turns c.args.room.brackets ws (within 32 c.args.room.end (c.args.room.turns - length ws) c.args.room.brackets c.in-Some.behind.now) ≡ within 32 c.args.room.end c.args.room.turns c.args.room.brackets c.args.rest.now in
+    let some : length c.loop-alloc.waiting.items < c.args.room.turns = let e = c.len.ensures in let w = c.loop-alloc-test.true in let k = c.loop-alloc.waiting.ok.0 in omega (arith, e, w, k) in
+    subst P (sym c.in_ok-push.ensures.items)
+    (begun c.args.room.end c.args.room.turns c.args.room.brackets c.loop-alloc.waiting.items c.in-Some.token.now c.loop-alloc.remaining.now c.in-Some.behind.now some c.in-Some.ensures.found.0 c.in-Some.ensures.found.1 ∙ c.loop-alloc.invariant)
 
-pub turn-returns-in_default : goal.turn-returns-in_default
-turn-returns-in_default t c =
-    let P : Answer (Formed × List Token) → Type 0 = λ told. Reads read c.chain.result told in
-    let some : 0 < c.args.room.turns = omega (arith, c.if-room-eq0.false) in
-    subst P (sym (turn_none 32 c.args.room.end c.args.room.turns c.args.room.brackets c.args.rest.now some (no_tokens c.args.rest.now c.in_default.ensures.cases))) c.chain.ensures
+pub turn-returns-in-Err : goal.turn-returns-in-Err
+turn-returns-in-Err t c =
+    let some : length c.loop-alloc.waiting.items < c.args.room.turns = let e = c.len.ensures in let w = c.loop-alloc-test.true in let k = c.loop-alloc.waiting.ok.0 in omega (arith, e, w, k) in
+    let count : c.after_turns-inner.result ≡ record { end = c.args.room.end; brackets = c.args.room.brackets; turns = c.args.room.turns - (length c.loop-alloc.waiting.items + 1) } = c.after_turns-inner.ensures ∙ ap (λ n. record { end = c.args.room.end; brackets = c.args.room.brackets; turns = c.args.room.turns - (n + 1) }) (c.len-in_default.ensures ∙ (let k = c.loop-alloc.waiting.ok.0 in omega (arith, k))) in
+    passed read read c.in-Err.refusal (chain_at (setting 32 c.after_turns-inner.result.end c.after_turns-inner.result.turns c.after_turns-inner.result.brackets) level.Or c.loop-alloc.remaining.now)
+    (within 32 c.args.room.end c.args.room.turns c.args.room.brackets c.args.rest.now) c.in-Err.ensures
+    (λ d h. sym c.loop-alloc.invariant
+    ∙ turn_refused c.args.room.end c.args.room.turns c.args.room.brackets c.loop-alloc.waiting.items c.loop-alloc.remaining.now c.after_turns-inner.result d some (c.in_default.ensures.other refl) count h)
 
-pub turn-returns-then-eq : goal.turn-returns-then-eq
-turn-returns-then-eq t c =
-    let P : Answer (Formed × List Token) → Type 0 = λ told. Reads read c.chosen.result told in
-    let some : 0 < c.args.room.turns = omega (arith, c.if-room-eq0.false) in
-    let is : sign_of c.in-Some.token.now.kind ≡ sign.If = sym c.sign_of.ensures ∙ same_true the_type (search rules) _ _ (sym c.if-eq.ensures) in
-    subst P (sym (turn_if 32 c.args.room.end c.args.room.turns c.args.room.brackets c.in-Some.token.now c.args.rest.now c.in-Some.behind.now some c.in-Some.ensures.cases.0 is)) c.chosen.ensures
+pub turn-returns-in-Whole : goal.turn-returns-in-Whole
+turn-returns-in-Whole t c =
+    let some : length c.loop-alloc.waiting.items < c.args.room.turns = let e = c.len.ensures in let w = c.loop-alloc-test.true in let k = c.loop-alloc.waiting.ok.0 in omega (arith, e, w, k) in
+    let count : c.after_turns-inner.result ≡ record { end = c.args.room.end; brackets = c.args.room.brackets; turns = c.args.room.turns - (length c.loop-alloc.waiting.items + 1) } = c.after_turns-inner.ensures ∙ ap (λ n. record { end = c.args.room.end; brackets = c.args.room.brackets; turns = c.args.room.turns - (n + 1) }) (c.len-in_default.ensures ∙ (let k = c.loop-alloc.waiting.ok.0 in omega (arith, k))) in
+    sym c.loop-alloc.invariant
+    ∙ turned c.args.room.end c.args.room.turns c.args.room.brackets c.loop-alloc.waiting.items c.loop-alloc.remaining.now c.after_turns-inner.result (read c.in-Ok.read) some (c.in_default.ensures.other refl) count c.in-Ok.ensures
+    ∙ whole_told c.args.room.end c.args.room.turns c.args.room.brackets c.resume.new.waiting.items c.in-Ok.read.1.now c.in-Ok-resume.resumed c.in-Whole.whole _ c.in-Ok-resume.ensures c.in-Whole.is
+
+pub turn-loop-alloc-smaller : goal.turn-loop-alloc-smaller
+turn-loop-alloc-smaller t c =
+    let short = chain_shorter c.after_turns-inner.result.end c.after_turns-inner.result.turns c.after_turns-inner.result.brackets c.loop-alloc.remaining.now (read c.in-Ok.read) c.in-Ok.ensures in
+    let P : Resumed → Type 0 = λ z. Resumes c.args.room.end c.args.room.turns c.args.room.brackets c.resume.new.waiting.items c.in-Ok.read.1.now (Ok z) (resumed_by c.args.room.end c.args.room.turns c.args.room.brackets c.loop-alloc.waiting.items (Ok (read c.in-Ok.read))) in
+    let told = subst P c.in-Part.is c.in-Ok-resume.ensures in
+    let less : length c.in-Part.behind.now < length c.in-Ok.read.1.now = told.0 in
+    shorter_still (length c.in-Part.behind.now) (length c.in-Ok.read.1.now) (length c.loop-alloc.remaining.now) less short
+
+pub turn-loop-alloc-preserved : goal.turn-loop-alloc-preserved
+turn-loop-alloc-preserved t c =
+    let some : length c.loop-alloc.waiting.items < c.args.room.turns = let e = c.len.ensures in let w = c.loop-alloc-test.true in let k = c.loop-alloc.waiting.ok.0 in omega (arith, e, w, k) in
+    let count : c.after_turns-inner.result ≡ record { end = c.args.room.end; brackets = c.args.room.brackets; turns = c.args.room.turns - (length c.loop-alloc.waiting.items + 1) } = c.after_turns-inner.ensures ∙ ap (λ n. record { end = c.args.room.end; brackets = c.args.room.brackets; turns = c.args.room.turns - (n + 1) }) (c.len-in_default.ensures ∙ (let k = c.loop-alloc.waiting.ok.0 in omega (arith, k))) in
+    let P : Resumed → Type 0 = λ z. Resumes c.args.room.end c.args.room.turns c.args.room.brackets c.resume.new.waiting.items c.in-Ok.read.1.now (Ok z) (resumed_by c.args.room.end c.args.room.turns c.args.room.brackets c.loop-alloc.waiting.items (Ok (read c.in-Ok.read))) in
+    let told = subst P c.in-Part.is c.in-Ok-resume.ensures in
+    sym
+    (sym c.loop-alloc.invariant
+    ∙ turned c.args.room.end c.args.room.turns c.args.room.brackets c.loop-alloc.waiting.items c.loop-alloc.remaining.now c.after_turns-inner.result (read c.in-Ok.read) some (c.in_default.ensures.other refl) count c.in-Ok.ensures
+    ∙ told.1)
+
+pub turn-returns-in-Err-resume : goal.turn-returns-in-Err-resume
+turn-returns-in-Err-resume t c =
+    let some : length c.loop-alloc.waiting.items < c.args.room.turns = let e = c.len.ensures in let w = c.loop-alloc-test.true in let k = c.loop-alloc.waiting.ok.0 in omega (arith, e, w, k) in
+    let count : c.after_turns-inner.result ≡ record { end = c.args.room.end; brackets = c.args.room.brackets; turns = c.args.room.turns - (length c.loop-alloc.waiting.items + 1) } = c.after_turns-inner.ensures ∙ ap (λ n. record { end = c.args.room.end; brackets = c.args.room.brackets; turns = c.args.room.turns - (n + 1) }) (c.len-in_default.ensures ∙ (let k = c.loop-alloc.waiting.ok.0 in omega (arith, k))) in
+    resume_refused read c.in-Err-resume.refusal c.args.room.end c.args.room.turns c.args.room.brackets [] c.in-Ok.read.1.now
+    (resumed_by c.args.room.end c.args.room.turns c.args.room.brackets c.loop-alloc.waiting.items (Ok (read c.in-Ok.read))) (within 32 c.args.room.end c.args.room.turns c.args.room.brackets c.args.rest.now) c.in-Err-resume.ensures
+    (sym c.loop-alloc.invariant
+    ∙ turned c.args.room.end c.args.room.turns c.args.room.brackets c.loop-alloc.waiting.items c.loop-alloc.remaining.now c.after_turns-inner.result (read c.in-Ok.read) some (c.in_default.ensures.other refl) count c.in-Ok.ensures)
 
 pub turn-returns : goal.turn-returns
 turn-returns t c =
-    let P : Answer (Formed × List Token) → Type 0 = λ told. Reads read c.chain-2.result told in
-    let some : 0 < c.args.room.turns = omega (arith, c.if-room-eq0.false) in
-    let other : same_sign (sign_of c.in-Some.token.now.kind) sign.If ≡ false = other_sign (sign_of c.in-Some.token.now.kind) sign.If (λ e. same_false the_type _ _ (sym c.if-eq.ensures) (c.sign_of.ensures ∙ e)) in
-    subst P (sym (turn_or 32 c.args.room.end c.args.room.turns c.args.room.brackets c.in-Some.token.now c.args.rest.now c.in-Some.behind.now some c.in-Some.ensures.cases.0 other)) c.chain-2.ensures
+    let none : c.args.room.turns ≤ length c.loop-alloc.waiting.items = let e = c.len.ensures in let w = c.loop-alloc-test.false in let k = c.loop-alloc.waiting.ok.0 in omega (arith, e, w, k) in
+    sym c.loop-alloc.invariant ∙ no_turns c.args.room.end c.args.room.turns c.args.room.brackets c.loop-alloc.waiting.items c.loop-alloc.remaining.now none ∙ ap (λ o. Err (Expected o)) (sym c.offset.ensures)

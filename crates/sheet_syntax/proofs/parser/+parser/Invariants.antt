@@ -1,5 +1,6 @@
 use Rattle.std.proofs.Common.{◌≡◌, ◌+◌, ◌*◌, ◌-◌, ◌∷◌, [], length}
-use Rattle.sheet_trees.specs.Reading.{setting, more, operand_at, chain_at, parts}
+use Rattle.sheet_trees.specs.Reading.{setting, more, operand_at, chain_at, parts, within}
+use Rattle.sheet_syntax.specs.Waiting.{resumed_by}
 use Rattle.sheet_trees.specs.Operators.{level_rank}
 use Rattle.sheet_syntax.proofs.parser.+parser.Given as goal
 
@@ -39,9 +40,6 @@ decreases-operand l = 50 * l.room.turns + 6 * level_rank l.level + 12
 abbrev pub decreases-chain : goal.decreases-chain
 decreases-chain l = 50 * l.room.turns + 6 * level_rank l.level + 14
 
-abbrev pub decreases-chosen : goal.decreases-chosen
-decreases-chosen l = 50 * l.room.turns + 4
-
 abbrev pub decreases-turn : goal.decreases-turn
 decreases-turn l = 50 * l.room.turns
 
@@ -57,3 +55,9 @@ abbrev pub invariant-parts-loop : goal.invariant-parts-loop
 invariant-parts-loop l =
     let s = setting 32 l.room.end l.room.turns l.room.brackets in
     parts s (l.end - l.counter) l.token l.trees l.deepest l.remaining ≡ parts s (length l.fn.rest) l.token (l.fn.first.tree ∷ []) l.fn.first.depth l.fn.rest
+
+abbrev pub invariant-turn-loop-alloc : goal.invariant-turn-loop-alloc
+invariant-turn-loop-alloc l = resumed_by l.room.end l.room.turns l.room.brackets l.waiting.items (within 32 l.room.end (l.room.turns - length l.waiting.items) l.room.brackets l.remaining) ≡ within 32 l.room.end l.room.turns l.room.brackets l.rest
+
+abbrev pub decreases-turn-loop-alloc : goal.decreases-turn-loop-alloc
+decreases-turn-loop-alloc l = length l.remaining

@@ -1,4 +1,4 @@
-use Rattle.std.proofs.Common.{◌≡◌, ◌-◌, drop, length, ap, ◌∙◌, sym, refl, List}
+use Rattle.std.proofs.Common.{◌-◌, drop, length, ap, ◌∙◌, List}
 use Rattle.sheet_tokens.specs.declared.token.Token.{Token}
 use Rattle.sheet_syntax.proofs.Formulas.{exact_at}
 use Rattle.sheet_syntax.proofs.read.read_from.Goals as goal
