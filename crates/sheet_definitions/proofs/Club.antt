@@ -9,13 +9,12 @@ use Rattle.sheet_trees.specs.declared.operators.Operator.TheVariants as operator
 use Rattle.sheet_trees.specs.declared.operators.Gathering.TheVariants as gathering
 use Rattle.sheet_trees.specs.declared.operators.Level.TheVariants as level
 use Rattle.sheet_trees.specs.declared.operators.Prefix.TheVariants as prefix
-use Rattle.sheet_definitions.specs.declared.definition.Declaration.TheVariants as declaration
 use Rattle.sheet_trees.specs.Grammar.{an_operation, a_prefix, a_child, a_leaf, a_comprehension, a_call, chosen_values}
 use Rattle.sheet_definitions.specs.declared.definition.Declaration.{Declaration}
-use Rattle.sheet_definitions.specs.Grammar.{IsDeclaration, left_out, stated, none, one_more, a_formula, one_name, a_path, numbers, texts, objects, just_one, an_allow, an_object_column, a_state_column, a_formula_column, no_columns, more_columns, a_parameter, one_parameter, more_parameters, no_parameters, some_parameters, of_root, of_object, an_assignment, a_new, a_delete, a_check, a_reply, a_for, no_statements, more_statements, a_block, a_procedure, a_show, one_show, a_table, a_view, the_callers, a_column, one_procedure, one_view}
+use Rattle.sheet_definitions.specs.Grammar.{IsDeclaration, left_out, stated, none, one_more, one_name, a_path, numbers, texts, objects, just_one, an_allow, an_object_column, a_state_column, a_formula_column, no_columns, more_columns, a_parameter, one_parameter, more_parameters, no_parameters, some_parameters, of_root, of_object, an_assignment, a_new, a_delete, a_check, a_reply, a_for, no_statements, more_statements, a_block, a_procedure, a_show, one_show, a_table, a_view, the_callers, a_column, one_procedure, one_view, no_declarations, more_declarations}
 use Rattle.sheet_definitions.specs.Club.{club, ClubIsRead}
 use Rattle.sheet_definitions.proofs.Tokens.{word, name, symbol, number, text}
-use Rattle.sheet_definitions.proofs.Lifting.{expression_of_atom, expression_of_comparison, expression_of_negation, expression_of_postfix, expression_of_sums, negation_of_comparison, postfix_of_atom, products_of_atom, sets_of_atom, sets_of_postfix, sums_of_atom}
+use Rattle.sheet_definitions.proofs.Lifting.{limits, a_formula, expression_of_atom, expression_of_comparison, expression_of_negation, expression_of_postfix, expression_of_sums, negation_of_comparison, postfix_of_atom, products_of_atom, sets_of_atom, sets_of_postfix, sums_of_atom}
 
 -- the tokens, with the offset and the line of each
 abbrev tokens : List Token
@@ -96,352 +95,65 @@ tokens =
 abbrev t : ℕ → Token
 t k = slice_index_or tokens k (word "" 0 0)
 
--- the declaration at that place
-abbrev the : ℕ → Declaration
-the k = slice_index_or club.declarations k (declaration.Callers 0 (record { line = 0; names = [] }))
+-- so many declarations from that place on
+abbrev the : ℕ → ℕ → List Declaration
+the k count = take count (drop k club.declarations)
 
--- so many tokens from that place on
-abbrev from : ℕ → ℕ → List Token
-from k count = take count (drop k tokens)
+-- the tokens from that place on
+abbrev behind : ℕ → List Token
+behind k = drop k tokens
 
-declaration_1_is : IsDeclaration (from 0 2) (the 0) (record { depth = 0; nest = 0; blocks = 0 })
+declaration_1_is : IsDeclaration limits 16 (behind 0) (the 0 1) (behind 2)
 declaration_1_is =
-    the_callers (t 0) _ _ refl (a_path _ _ (one_name (t 1) _ refl))
+    the_callers (t 0) _ _ _ refl (a_path _ _ _ (one_name (t 1) _ _ refl))
 
-declaration_2_is : IsDeclaration (from 2 38) (the 1) (record { depth = 3; nest = 1; blocks = 0 })
+declaration_2_is : IsDeclaration limits 16 (behind 2) (the 1 7) (behind 40)
 declaration_2_is =
-    a_column _ _ _
-    (an_object_column (t 2) (t 3) (t 4) (t 39) _ _ _ _ refl refl refl
-    (more_columns _ _ _ _ _ _
-    (a_state_column (t 5) (t 6) (t 7) _ _ _ _ _ _ _ _ refl refl refl (texts (t 8) refl) (just_one (t 9) refl) left_out)
-    (more_columns _ _ _ _ _ _
-    (a_state_column (t 10) (t 11) (t 12) _ _ _ _ _ _ _ _ refl refl refl (numbers (t 13) refl) (just_one (t 14) refl) left_out)
-    (more_columns _ _ _ _ _ _
-    (an_object_column (t 15) (t 16) (t 17) (t 23) _ _ _ _ refl refl refl
-    (more_columns _ _ _ _ _ _
-    (a_state_column (t 18) (t 19) (t 20) _ _ _ _ _ _ _ _ refl refl refl
-    (objects _ _ (a_path _ _ (one_name (t 21) _ refl))) (just_one (t 22) refl) left_out)
-    no_columns)
-    refl)
-    (more_columns _ _ _ _ _ _
-    (a_formula_column (t 24) (t 25) (t 26) _ _ _ _ _ _ _ refl refl left_out refl
-    (a_formula _ _ _
-    (expression_of_postfix (a_child (t 28) (t 29) _ _ _ (postfix_of_atom (a_leaf (t 27) _ refl)) refl refl))))
-    (more_columns _ _ _ _ _ _
-    (a_formula_column (t 30) (t 31) (t 32) _ _ _ _ _ _ _ refl refl left_out refl
-    (a_formula _ _ _
-    (expression_of_sums
-    (an_operation level.Sums operator.Minus (t 34) _ _ _ _ (sums_of_atom (a_leaf (t 33) _ refl)) refl
-    (products_of_atom
-    (a_call (t 35) (t 36) (t 38) _ _ _ refl refl
-    (expression_of_atom (a_leaf (t 37) _ refl)) refl))))))
-    no_columns)))))
-    refl)
+    a_column _ _ _ (an_object_column _ (t 2) (t 3) (t 4) (t 39) _ _ _ _ refl refl refl (more_columns _ _ _ _ _ _ (a_state_column _ (t 5) (t 6) (t 7) _ _ _ _ _ _ _ _ refl refl refl (texts (t 8) _ refl) (just_one (t 9) _ refl) (left_out _)) (more_columns _ _ _ _ _ _ (a_state_column _ (t 10) (t 11) (t 12) _ _ _ _ _ _ _ _ refl refl refl (numbers (t 13) _ refl) (just_one (t 14) _ refl) (left_out _)) (more_columns _ _ _ _ _ _ (an_object_column _ (t 15) (t 16) (t 17) (t 23) _ _ _ _ refl refl refl (more_columns _ _ _ _ _ _ (a_state_column _ (t 18) (t 19) (t 20) _ _ _ _ _ _ _ _ refl refl refl (objects _ _ _ (a_path _ _ _ (one_name (t 21) _ _ refl))) (just_one (t 22) _ refl) (left_out _)) (no_columns _ _)) refl) (more_columns _ _ _ _ _ _ (a_formula_column _ (t 24) (t 25) (t 26) _ _ _ _ _ _ refl refl (left_out _) refl (a_formula _ _ (expression_of_postfix (a_child (t 28) (t 29) _ _ _ (postfix_of_atom (a_leaf (t 27) _ refl)) refl refl)) refl refl refl)) (more_columns _ _ _ _ _ _ (a_formula_column _ (t 30) (t 31) (t 32) _ _ _ _ _ _ refl refl (left_out _) refl (a_formula _ _ (expression_of_sums (an_operation level.Sums operator.Minus (t 34) _ _ _ _ (sums_of_atom (a_leaf (t 33) _ refl)) refl (products_of_atom (a_call (t 35) (t 36) (t 38) _ _ _ refl refl (expression_of_atom (a_leaf (t 37) _ refl)) refl)))) refl refl refl)) (no_columns _ _)))))) refl)
 
-declaration_3_is : IsDeclaration (from 40 25) (the 2) (record { depth = 4; nest = 1; blocks = 0 })
+declaration_3_is : IsDeclaration limits 16 (behind 40) (the 8 3) (behind 65)
 declaration_3_is =
-    a_column _ _ _
-    (an_object_column (t 40) (t 41) (t 42) (t 64) _ _ _ _ refl refl refl
-    (more_columns _ _ _ _ _ _
-    (a_state_column (t 43) (t 44) (t 45) _ _ _ _ _ _ _ _ refl refl refl (texts (t 46) refl) (just_one (t 47) refl) left_out)
-    (more_columns _ _ _ _ _ _
-    (a_formula_column (t 48) (t 49) (t 50) _ _ _ _ _ _ _ refl refl left_out refl
-    (a_formula _ _ _
-    (expression_of_atom
-    (a_comprehension (t 51) (t 63) _ _ refl
-    (chosen_values _ gathering.Union (t 53) (t 54) (t 55) (t 57) _ _ _ _ _ _ _
-    (expression_of_atom (a_leaf (t 52) _ refl)) refl refl refl (expression_of_atom (a_leaf (t 56) _ refl))
-    refl
-    (expression_of_comparison
-    (an_operation level.Comparison operator.In (t 59) _ _ _ _ (sets_of_atom (a_leaf (t 58) _ refl))
-    refl
-    (sets_of_postfix
-    (a_child (t 61) (t 62) _ _ _ (postfix_of_atom (a_leaf (t 60) _ refl)) refl refl)))))
-    refl))))
-    no_columns))
-    refl)
+    a_column _ _ _ (an_object_column _ (t 40) (t 41) (t 42) (t 64) _ _ _ _ refl refl refl (more_columns _ _ _ _ _ _ (a_state_column _ (t 43) (t 44) (t 45) _ _ _ _ _ _ _ _ refl refl refl (texts (t 46) _ refl) (just_one (t 47) _ refl) (left_out _)) (more_columns _ _ _ _ _ _ (a_formula_column _ (t 48) (t 49) (t 50) _ _ _ _ _ _ refl refl (left_out _) refl (a_formula _ _ (expression_of_atom (a_comprehension (t 51) (t 63) _ _ refl (chosen_values _ gathering.Union (t 53) (t 54) (t 55) (t 57) _ _ _ _ _ _ _ (expression_of_atom (a_leaf (t 52) _ refl)) refl refl refl (expression_of_atom (a_leaf (t 56) _ refl)) refl (expression_of_comparison (an_operation level.Comparison operator.In (t 59) _ _ _ _ (sets_of_atom (a_leaf (t 58) _ refl)) refl (sets_of_postfix (a_child (t 61) (t 62) _ _ _ (postfix_of_atom (a_leaf (t 60) _ refl)) refl refl))))) refl)) refl refl refl)) (no_columns _ _))) refl)
 
-declaration_4_is : IsDeclaration (from 65 39) (the 3) (record { depth = 2; nest = 0; blocks = 1 })
+declaration_4_is : IsDeclaration limits 16 (behind 65) (the 11 1) (behind 104)
 declaration_4_is =
-    one_procedure _ _ _
-    (a_procedure (t 65) (t 66) _ _ _ _ _ _ _ _ _ refl refl
-    (some_parameters (t 67) (t 75) _ _ refl
-    (more_parameters _ _ (t 71) _ _
-    (a_parameter (t 68) (t 69) _ _ _ refl refl (texts (t 70) refl)) refl
-    (one_parameter _ _ (a_parameter (t 72) (t 73) _ _ _ refl refl (numbers (t 74) refl))))
-    (omega arith) refl)
-    (stated _ _ _ (an_allow (t 76) _ _ _ refl (a_formula _ _ _ (expression_of_atom (a_leaf (t 77) _ refl)))))
-    (a_block (t 78) (t 103) _ _ _ refl
-    (more_statements _ _ _ _ _ _
-    (a_check (t 79) (t 83) (t 84) _ _ _ _ refl
-    (a_formula _ _ _
-    (expression_of_comparison
-    (an_operation level.Comparison operator.AtLeast (t 81) _ _ _ _ (sets_of_atom (a_leaf (t 80) _ refl)) refl
-    (sets_of_atom (a_leaf (t 82) _ refl)))))
-    refl refl)
-    (more_statements _ _ _ _ _ _
-    (a_new (t 85) (t 86) (t 87) _ _ _ _ refl refl refl (of_root (t 88) _ refl))
-    (more_statements _ _ _ _ _ _
-    (an_assignment (t 89) (t 93) _ _ _ _ _ _ refl
-    (of_object (t 91) (t 92) _ _ _ _ (a_formula _ _ _ (postfix_of_atom (a_leaf (t 90) _ refl))) refl refl) refl
-    (a_formula _ _ _ (expression_of_atom (a_leaf (t 94) _ refl))))
-    (more_statements _ _ _ _ _ _
-    (an_assignment (t 95) (t 99) _ _ _ _ _ _ refl
-    (of_object (t 97) (t 98) _ _ _ _ (a_formula _ _ _ (postfix_of_atom (a_leaf (t 96) _ refl))) refl refl) refl
-    (a_formula _ _ _ (expression_of_atom (a_leaf (t 100) _ refl))))
-    (more_statements _ _ _ _ _ _
-    (a_reply (t 101) _ _ _ refl (a_formula _ _ _ (expression_of_atom (a_leaf (t 102) _ refl)))) no_statements)))))
-    refl))
+    one_procedure _ _ _ (a_procedure (t 65) (t 66) _ _ _ _ _ _ _ _ refl refl (some_parameters (t 67) (t 75) _ _ _ refl (more_parameters _ _ _ (t 71) _ _ (a_parameter (t 68) (t 69) _ _ _ _ refl refl (texts (t 70) _ refl)) refl (one_parameter _ _ _ (a_parameter (t 72) (t 73) _ _ _ _ refl refl (numbers (t 74) _ refl)))) (omega arith) refl) (stated _ _ _ (an_allow (t 76) _ _ _ refl (a_formula _ _ (expression_of_atom (a_leaf (t 77) _ refl)) refl refl refl))) (a_block _ (t 78) (t 103) _ _ _ refl (more_statements _ _ _ _ _ _ (a_check _ (t 79) (t 83) (t 84) _ _ _ _ refl (a_formula _ _ (expression_of_comparison (an_operation level.Comparison operator.AtLeast (t 81) _ _ _ _ (sets_of_atom (a_leaf (t 80) _ refl)) refl (sets_of_atom (a_leaf (t 82) _ refl)))) refl refl refl) refl refl) (more_statements _ _ _ _ _ _ (a_new _ (t 85) (t 86) (t 87) _ _ _ _ refl refl refl (of_root (t 88) _ _ refl)) (more_statements _ _ _ _ _ _ (an_assignment _ (t 89) (t 93) _ _ _ _ _ refl (of_object (t 91) (t 92) _ _ _ _ (a_formula _ _ (postfix_of_atom (a_leaf (t 90) _ refl)) refl refl refl) refl refl) refl (a_formula _ _ (expression_of_atom (a_leaf (t 94) _ refl)) refl refl refl)) (more_statements _ _ _ _ _ _ (an_assignment _ (t 95) (t 99) _ _ _ _ _ refl (of_object (t 97) (t 98) _ _ _ _ (a_formula _ _ (postfix_of_atom (a_leaf (t 96) _ refl)) refl refl refl) refl refl) refl (a_formula _ _ (expression_of_atom (a_leaf (t 100) _ refl)) refl refl refl)) (more_statements _ _ _ _ _ _ (a_reply _ (t 101) _ _ _ refl (a_formula _ _ (expression_of_atom (a_leaf (t 102) _ refl)) refl refl refl)) (no_statements _ _)))))) refl))
 
-declaration_5_is : IsDeclaration (from 104 23) (the 4) (record { depth = 1; nest = 0; blocks = 1 })
+declaration_5_is : IsDeclaration limits 16 (behind 104) (the 12 1) (behind 127)
 declaration_5_is =
-    one_procedure _ _ _
-    (a_procedure (t 104) (t 105) _ _ _ _ _ _ _ _ _ refl refl
-    (some_parameters (t 106) (t 110) _ _ refl
-    (one_parameter _ _ (a_parameter (t 107) (t 108) _ _ _ refl refl (texts (t 109) refl))) (omega arith) refl)
-    (stated _ _ _ (an_allow (t 111) _ _ _ refl (a_formula _ _ _ (expression_of_atom (a_leaf (t 112) _ refl)))))
-    (a_block (t 113) (t 126) _ _ _ refl
-    (more_statements _ _ _ _ _ _
-    (a_new (t 114) (t 115) (t 116) _ _ _ _ refl refl refl (of_root (t 117) _ refl))
-    (more_statements _ _ _ _ _ _
-    (an_assignment (t 118) (t 122) _ _ _ _ _ _ refl
-    (of_object (t 120) (t 121) _ _ _ _ (a_formula _ _ _ (postfix_of_atom (a_leaf (t 119) _ refl))) refl refl) refl
-    (a_formula _ _ _ (expression_of_atom (a_leaf (t 123) _ refl))))
-    (more_statements _ _ _ _ _ _
-    (a_reply (t 124) _ _ _ refl (a_formula _ _ _ (expression_of_atom (a_leaf (t 125) _ refl)))) no_statements)))
-    refl))
+    one_procedure _ _ _ (a_procedure (t 104) (t 105) _ _ _ _ _ _ _ _ refl refl (some_parameters (t 106) (t 110) _ _ _ refl (one_parameter _ _ _ (a_parameter (t 107) (t 108) _ _ _ _ refl refl (texts (t 109) _ refl))) (omega arith) refl) (stated _ _ _ (an_allow (t 111) _ _ _ refl (a_formula _ _ (expression_of_atom (a_leaf (t 112) _ refl)) refl refl refl))) (a_block _ (t 113) (t 126) _ _ _ refl (more_statements _ _ _ _ _ _ (a_new _ (t 114) (t 115) (t 116) _ _ _ _ refl refl refl (of_root (t 117) _ _ refl)) (more_statements _ _ _ _ _ _ (an_assignment _ (t 118) (t 122) _ _ _ _ _ refl (of_object (t 120) (t 121) _ _ _ _ (a_formula _ _ (postfix_of_atom (a_leaf (t 119) _ refl)) refl refl refl) refl refl) refl (a_formula _ _ (expression_of_atom (a_leaf (t 123) _ refl)) refl refl refl)) (more_statements _ _ _ _ _ _ (a_reply _ (t 124) _ _ _ refl (a_formula _ _ (expression_of_atom (a_leaf (t 125) _ refl)) refl refl refl)) (no_statements _ _)))) refl))
 
-declaration_6_is : IsDeclaration (from 127 21) (the 5) (record { depth = 1; nest = 0; blocks = 1 })
+declaration_6_is : IsDeclaration limits 16 (behind 127) (the 13 1) (behind 148)
 declaration_6_is =
-    one_procedure _ _ _
-    (a_procedure (t 127) (t 128) _ _ _ _ _ _ _ _ _ refl refl
-    (some_parameters (t 129) (t 137) _ _ refl
-    (more_parameters _ _ (t 133) _ _
-    (a_parameter (t 130) (t 131) _ _ _ refl refl (objects _ _ (a_path _ _ (one_name (t 132) _ refl)))) refl
-    (one_parameter _ _ (a_parameter (t 134) (t 135) _ _ _ refl refl (texts (t 136) refl))))
-    (omega arith) refl)
-    (stated _ _ _ (an_allow (t 138) _ _ _ refl (a_formula _ _ _ (expression_of_atom (a_leaf (t 139) _ refl)))))
-    (a_block (t 140) (t 147) _ _ _ refl
-    (more_statements _ _ _ _ _ _
-    (an_assignment (t 141) (t 145) _ _ _ _ _ _ refl
-    (of_object (t 143) (t 144) _ _ _ _ (a_formula _ _ _ (postfix_of_atom (a_leaf (t 142) _ refl))) refl refl) refl
-    (a_formula _ _ _ (expression_of_atom (a_leaf (t 146) _ refl))))
-    no_statements)
-    refl))
+    one_procedure _ _ _ (a_procedure (t 127) (t 128) _ _ _ _ _ _ _ _ refl refl (some_parameters (t 129) (t 137) _ _ _ refl (more_parameters _ _ _ (t 133) _ _ (a_parameter (t 130) (t 131) _ _ _ _ refl refl (objects _ _ _ (a_path _ _ _ (one_name (t 132) _ _ refl)))) refl (one_parameter _ _ _ (a_parameter (t 134) (t 135) _ _ _ _ refl refl (texts (t 136) _ refl)))) (omega arith) refl) (stated _ _ _ (an_allow (t 138) _ _ _ refl (a_formula _ _ (expression_of_atom (a_leaf (t 139) _ refl)) refl refl refl))) (a_block _ (t 140) (t 147) _ _ _ refl (more_statements _ _ _ _ _ _ (an_assignment _ (t 141) (t 145) _ _ _ _ _ refl (of_object (t 143) (t 144) _ _ _ _ (a_formula _ _ (postfix_of_atom (a_leaf (t 142) _ refl)) refl refl refl) refl refl) refl (a_formula _ _ (expression_of_atom (a_leaf (t 146) _ refl)) refl refl refl)) (no_statements _ _)) refl))
 
-declaration_7_is : IsDeclaration (from 148 49) (the 6) (record { depth = 4; nest = 1; blocks = 1 })
+declaration_7_is : IsDeclaration limits 16 (behind 148) (the 14 1) (behind 197)
 declaration_7_is =
-    one_procedure _ _ _
-    (a_procedure (t 148) (t 149) _ _ _ _ _ _ _ _ _ refl refl
-    (some_parameters (t 150) (t 154) _ _ refl
-    (one_parameter _ _ (a_parameter (t 151) (t 152) _ _ _ refl refl (objects _ _ (a_path _ _ (one_name (t 153) _ refl))))) (omega arith)
-    refl)
-    left_out
-    (a_block (t 155) (t 196) _ _ _ refl
-    (more_statements _ _ _ _ _ _
-    (a_check (t 156) (t 163) (t 164) _ _ _ _ refl
-    (a_formula _ _ _
-    (expression_of_comparison
-    (an_operation level.Comparison operator.Equals (t 161) _ _ _ _
-    (sets_of_atom
-    (a_call (t 157) (t 158) (t 160) _ _ _ refl refl (expression_of_atom (a_leaf (t 159) _ refl)) refl))
-    refl (sets_of_atom (a_leaf (t 162) _ refl)))))
-    refl refl)
-    (more_statements _ _ _ _ _ _
-    (a_check (t 165) (t 172) (t 173) _ _ _ _ refl
-    (a_formula _ _ _
-    (expression_of_negation
-    (a_prefix prefix.Not (t 166) _ _ refl
-    (negation_of_comparison
-    (an_operation level.Comparison operator.In (t 168) _ _ _ _ (sets_of_atom (a_leaf (t 167) _ refl))
-    refl
-    (sets_of_postfix
-    (a_child (t 170) (t 171) _ _ _ (postfix_of_atom (a_leaf (t 169) _ refl)) refl refl)))))))
-    refl refl)
-    (more_statements _ _ _ _ _ _
-    (a_check (t 174) (t 180) (t 181) _ _ _ _ refl
-    (a_formula _ _ _
-    (expression_of_comparison
-    (an_operation level.Comparison operator.Greater (t 178) _ _ _ _
-    (sets_of_postfix
-    (a_child (t 176) (t 177) _ _ _ (postfix_of_atom (a_leaf (t 175) _ refl)) refl refl))
-    refl (sets_of_atom (a_leaf (t 179) _ refl)))))
-    refl refl)
-    (more_statements _ _ _ _ _ _
-    (a_new (t 182) (t 183) (t 184) _ _ _ _ refl refl refl
-    (of_object (t 186) (t 187) _ _ _ _ (a_formula _ _ _ (postfix_of_atom (a_leaf (t 185) _ refl))) refl refl))
-    (more_statements _ _ _ _ _ _
-    (an_assignment (t 188) (t 192) _ _ _ _ _ _ refl
-    (of_object (t 190) (t 191) _ _ _ _ (a_formula _ _ _ (postfix_of_atom (a_leaf (t 189) _ refl))) refl
-    refl)
-    refl
-    (a_formula _ _ _ (expression_of_atom (a_leaf (t 193) _ refl))))
-    (more_statements _ _ _ _ _ _
-    (a_reply (t 194) _ _ _ refl (a_formula _ _ _ (expression_of_atom (a_leaf (t 195) _ refl))))
-    no_statements))))))
-    refl))
+    one_procedure _ _ _ (a_procedure (t 148) (t 149) _ _ _ _ _ _ _ _ refl refl (some_parameters (t 150) (t 154) _ _ _ refl (one_parameter _ _ _ (a_parameter (t 151) (t 152) _ _ _ _ refl refl (objects _ _ _ (a_path _ _ _ (one_name (t 153) _ _ refl))))) (omega arith) refl) (left_out _) (a_block _ (t 155) (t 196) _ _ _ refl (more_statements _ _ _ _ _ _ (a_check _ (t 156) (t 163) (t 164) _ _ _ _ refl (a_formula _ _ (expression_of_comparison (an_operation level.Comparison operator.Equals (t 161) _ _ _ _ (sets_of_atom (a_call (t 157) (t 158) (t 160) _ _ _ refl refl (expression_of_atom (a_leaf (t 159) _ refl)) refl)) refl (sets_of_atom (a_leaf (t 162) _ refl)))) refl refl refl) refl refl) (more_statements _ _ _ _ _ _ (a_check _ (t 165) (t 172) (t 173) _ _ _ _ refl (a_formula _ _ (expression_of_negation (a_prefix prefix.Not (t 166) _ _ refl (negation_of_comparison (an_operation level.Comparison operator.In (t 168) _ _ _ _ (sets_of_atom (a_leaf (t 167) _ refl)) refl (sets_of_postfix (a_child (t 170) (t 171) _ _ _ (postfix_of_atom (a_leaf (t 169) _ refl)) refl refl)))))) refl refl refl) refl refl) (more_statements _ _ _ _ _ _ (a_check _ (t 174) (t 180) (t 181) _ _ _ _ refl (a_formula _ _ (expression_of_comparison (an_operation level.Comparison operator.Greater (t 178) _ _ _ _ (sets_of_postfix (a_child (t 176) (t 177) _ _ _ (postfix_of_atom (a_leaf (t 175) _ refl)) refl refl)) refl (sets_of_atom (a_leaf (t 179) _ refl)))) refl refl refl) refl refl) (more_statements _ _ _ _ _ _ (a_new _ (t 182) (t 183) (t 184) _ _ _ _ refl refl refl (of_object (t 186) (t 187) _ _ _ _ (a_formula _ _ (postfix_of_atom (a_leaf (t 185) _ refl)) refl refl refl) refl refl)) (more_statements _ _ _ _ _ _ (an_assignment _ (t 188) (t 192) _ _ _ _ _ refl (of_object (t 190) (t 191) _ _ _ _ (a_formula _ _ (postfix_of_atom (a_leaf (t 189) _ refl)) refl refl refl) refl refl) refl (a_formula _ _ (expression_of_atom (a_leaf (t 193) _ refl)) refl refl refl)) (more_statements _ _ _ _ _ _ (a_reply _ (t 194) _ _ _ refl (a_formula _ _ (expression_of_atom (a_leaf (t 195) _ refl)) refl refl refl)) (no_statements _ _))))))) refl))
 
-declaration_8_is : IsDeclaration (from 197 46) (the 7) (record { depth = 4; nest = 0; blocks = 1 })
+declaration_8_is : IsDeclaration limits 16 (behind 197) (the 15 1) (behind 243)
 declaration_8_is =
-    one_procedure _ _ _
-    (a_procedure (t 197) (t 198) _ _ _ _ _ _ _ _ _ refl refl
-    (some_parameters (t 199) (t 207) _ _ refl
-    (more_parameters _ _ (t 203) _ _
-    (a_parameter (t 200) (t 201) _ _ _ refl refl (objects _ _ (a_path _ _ (one_name (t 202) _ refl)))) refl
-    (one_parameter _ _ (a_parameter (t 204) (t 205) _ _ _ refl refl (objects _ _ (a_path _ _ (one_name (t 206) _ refl))))))
-    (omega arith) refl)
-    (stated _ _ _ (an_allow (t 208) _ _ _ refl (a_formula _ _ _ (expression_of_atom (a_leaf (t 209) _ refl)))))
-    (a_block (t 210) (t 242) _ _ _ refl
-    (more_statements _ _ _ _ _ _
-    (a_check (t 211) (t 218) (t 219) _ _ _ _ refl
-    (a_formula _ _ _
-    (expression_of_negation
-    (a_prefix prefix.Not (t 212) _ _ refl
-    (negation_of_comparison
-    (an_operation level.Comparison operator.In (t 214) _ _ _ _ (sets_of_atom (a_leaf (t 213) _ refl)) refl
-    (sets_of_postfix
-    (a_child (t 216) (t 217) _ _ _ (postfix_of_atom (a_leaf (t 215) _ refl)) refl refl)))))))
-    refl refl)
-    (more_statements _ _ _ _ _ _
-    (a_check (t 220) (t 226) (t 227) _ _ _ _ refl
-    (a_formula _ _ _
-    (expression_of_comparison
-    (an_operation level.Comparison operator.Greater (t 224) _ _ _ _
-    (sets_of_postfix (a_child (t 222) (t 223) _ _ _ (postfix_of_atom (a_leaf (t 221) _ refl)) refl refl))
-    refl (sets_of_atom (a_leaf (t 225) _ refl)))))
-    refl refl)
-    (more_statements _ _ _ _ _ _
-    (a_new (t 228) (t 229) (t 230) _ _ _ _ refl refl refl
-    (of_object (t 232) (t 233) _ _ _ _ (a_formula _ _ _ (postfix_of_atom (a_leaf (t 231) _ refl))) refl refl))
-    (more_statements _ _ _ _ _ _
-    (an_assignment (t 234) (t 238) _ _ _ _ _ _ refl
-    (of_object (t 236) (t 237) _ _ _ _ (a_formula _ _ _ (postfix_of_atom (a_leaf (t 235) _ refl))) refl refl)
-    refl
-    (a_formula _ _ _ (expression_of_atom (a_leaf (t 239) _ refl))))
-    (more_statements _ _ _ _ _ _
-    (a_reply (t 240) _ _ _ refl (a_formula _ _ _ (expression_of_atom (a_leaf (t 241) _ refl)))) no_statements)))))
-    refl))
+    one_procedure _ _ _ (a_procedure (t 197) (t 198) _ _ _ _ _ _ _ _ refl refl (some_parameters (t 199) (t 207) _ _ _ refl (more_parameters _ _ _ (t 203) _ _ (a_parameter (t 200) (t 201) _ _ _ _ refl refl (objects _ _ _ (a_path _ _ _ (one_name (t 202) _ _ refl)))) refl (one_parameter _ _ _ (a_parameter (t 204) (t 205) _ _ _ _ refl refl (objects _ _ _ (a_path _ _ _ (one_name (t 206) _ _ refl)))))) (omega arith) refl) (stated _ _ _ (an_allow (t 208) _ _ _ refl (a_formula _ _ (expression_of_atom (a_leaf (t 209) _ refl)) refl refl refl))) (a_block _ (t 210) (t 242) _ _ _ refl (more_statements _ _ _ _ _ _ (a_check _ (t 211) (t 218) (t 219) _ _ _ _ refl (a_formula _ _ (expression_of_negation (a_prefix prefix.Not (t 212) _ _ refl (negation_of_comparison (an_operation level.Comparison operator.In (t 214) _ _ _ _ (sets_of_atom (a_leaf (t 213) _ refl)) refl (sets_of_postfix (a_child (t 216) (t 217) _ _ _ (postfix_of_atom (a_leaf (t 215) _ refl)) refl refl)))))) refl refl refl) refl refl) (more_statements _ _ _ _ _ _ (a_check _ (t 220) (t 226) (t 227) _ _ _ _ refl (a_formula _ _ (expression_of_comparison (an_operation level.Comparison operator.Greater (t 224) _ _ _ _ (sets_of_postfix (a_child (t 222) (t 223) _ _ _ (postfix_of_atom (a_leaf (t 221) _ refl)) refl refl)) refl (sets_of_atom (a_leaf (t 225) _ refl)))) refl refl refl) refl refl) (more_statements _ _ _ _ _ _ (a_new _ (t 228) (t 229) (t 230) _ _ _ _ refl refl refl (of_object (t 232) (t 233) _ _ _ _ (a_formula _ _ (postfix_of_atom (a_leaf (t 231) _ refl)) refl refl refl) refl refl)) (more_statements _ _ _ _ _ _ (an_assignment _ (t 234) (t 238) _ _ _ _ _ refl (of_object (t 236) (t 237) _ _ _ _ (a_formula _ _ (postfix_of_atom (a_leaf (t 235) _ refl)) refl refl refl) refl refl) refl (a_formula _ _ (expression_of_atom (a_leaf (t 239) _ refl)) refl refl refl)) (more_statements _ _ _ _ _ _ (a_reply _ (t 240) _ _ _ refl (a_formula _ _ (expression_of_atom (a_leaf (t 241) _ refl)) refl refl refl)) (no_statements _ _)))))) refl))
 
-declaration_9_is : IsDeclaration (from 243 25) (the 8) (record { depth = 4; nest = 1; blocks = 1 })
+declaration_9_is : IsDeclaration limits 16 (behind 243) (the 16 1) (behind 268)
 declaration_9_is =
-    one_procedure _ _ _
-    (a_procedure (t 243) (t 244) _ _ _ _ _ _ _ _ _ refl refl
-    (some_parameters (t 245) (t 249) _ _ refl
-    (one_parameter _ _ (a_parameter (t 246) (t 247) _ _ _ refl refl (objects _ _ (a_path _ _ (one_name (t 248) _ refl))))) (omega arith)
-    refl)
-    left_out
-    (a_block (t 250) (t 267) _ _ _ refl
-    (more_statements _ _ _ _ _ _
-    (a_delete (t 251) _ _ _ refl
-    (a_formula _ _ _
-    (expression_of_atom
-    (a_comprehension (t 252) (t 266) _ _ refl
-    (chosen_values _ gathering.Union (t 254) (t 255) (t 256) (t 260) _ _ _ _ _ _ _
-    (expression_of_atom (a_leaf (t 253) _ refl)) refl refl refl
-    (expression_of_postfix
-    (a_child (t 258) (t 259) _ _ _ (postfix_of_atom (a_leaf (t 257) _ refl)) refl refl))
-    refl
-    (expression_of_comparison
-    (an_operation level.Comparison operator.Equals (t 264) _ _ _ _
-    (sets_of_postfix
-    (a_child (t 262) (t 263) _ _ _ (postfix_of_atom (a_leaf (t 261) _ refl)) refl refl))
-    refl (sets_of_atom (a_leaf (t 265) _ refl)))))
-    refl))))
-    no_statements)
-    refl))
+    one_procedure _ _ _ (a_procedure (t 243) (t 244) _ _ _ _ _ _ _ _ refl refl (some_parameters (t 245) (t 249) _ _ _ refl (one_parameter _ _ _ (a_parameter (t 246) (t 247) _ _ _ _ refl refl (objects _ _ _ (a_path _ _ _ (one_name (t 248) _ _ refl))))) (omega arith) refl) (left_out _) (a_block _ (t 250) (t 267) _ _ _ refl (more_statements _ _ _ _ _ _ (a_delete _ (t 251) _ _ _ refl (a_formula _ _ (expression_of_atom (a_comprehension (t 252) (t 266) _ _ refl (chosen_values _ gathering.Union (t 254) (t 255) (t 256) (t 260) _ _ _ _ _ _ _ (expression_of_atom (a_leaf (t 253) _ refl)) refl refl refl (expression_of_postfix (a_child (t 258) (t 259) _ _ _ (postfix_of_atom (a_leaf (t 257) _ refl)) refl refl)) refl (expression_of_comparison (an_operation level.Comparison operator.Equals (t 264) _ _ _ _ (sets_of_postfix (a_child (t 262) (t 263) _ _ _ (postfix_of_atom (a_leaf (t 261) _ refl)) refl refl)) refl (sets_of_atom (a_leaf (t 265) _ refl))))) refl)) refl refl refl)) (no_statements _ _)) refl))
 
-declaration_10_is : IsDeclaration (from 268 13) (the 9) (record { depth = 1; nest = 0; blocks = 1 })
+declaration_10_is : IsDeclaration limits 16 (behind 268) (the 17 1) (behind 281)
 declaration_10_is =
-    one_procedure _ _ _
-    (a_procedure (t 268) (t 269) _ _ _ _ _ _ _ _ _ refl refl
-    (some_parameters (t 270) (t 274) _ _ refl
-    (one_parameter _ _ (a_parameter (t 271) (t 272) _ _ _ refl refl (objects _ _ (a_path _ _ (one_name (t 273) _ refl))))) (omega arith)
-    refl)
-    (stated _ _ _ (an_allow (t 275) _ _ _ refl (a_formula _ _ _ (expression_of_atom (a_leaf (t 276) _ refl)))))
-    (a_block (t 277) (t 280) _ _ _ refl
-    (more_statements _ _ _ _ _ _
-    (a_delete (t 278) _ _ _ refl (a_formula _ _ _ (expression_of_atom (a_leaf (t 279) _ refl)))) no_statements)
-    refl))
+    one_procedure _ _ _ (a_procedure (t 268) (t 269) _ _ _ _ _ _ _ _ refl refl (some_parameters (t 270) (t 274) _ _ _ refl (one_parameter _ _ _ (a_parameter (t 271) (t 272) _ _ _ _ refl refl (objects _ _ _ (a_path _ _ _ (one_name (t 273) _ _ refl))))) (omega arith) refl) (stated _ _ _ (an_allow (t 275) _ _ _ refl (a_formula _ _ (expression_of_atom (a_leaf (t 276) _ refl)) refl refl refl))) (a_block _ (t 277) (t 280) _ _ _ refl (more_statements _ _ _ _ _ _ (a_delete _ (t 278) _ _ _ refl (a_formula _ _ (expression_of_atom (a_leaf (t 279) _ refl)) refl refl refl)) (no_statements _ _)) refl))
 
-declaration_11_is : IsDeclaration (from 281 25) (the 10) (record { depth = 2; nest = 0; blocks = 2 })
+declaration_11_is : IsDeclaration limits 16 (behind 281) (the 18 1) (behind 306)
 declaration_11_is =
-    one_procedure _ _ _
-    (a_procedure (t 281) (t 282) _ _ _ _ _ _ _ _ _ refl refl
-    (some_parameters (t 283) (t 287) _ _ refl
-    (one_parameter _ _ (a_parameter (t 284) (t 285) _ _ _ refl refl (objects _ _ (a_path _ _ (one_name (t 286) _ refl))))) (omega arith)
-    refl)
-    (stated _ _ _ (an_allow (t 288) _ _ _ refl (a_formula _ _ _ (expression_of_atom (a_leaf (t 289) _ refl)))))
-    (a_block (t 290) (t 305) _ _ _ refl
-    (more_statements _ _ _ _ _ _
-    (a_for (t 291) (t 292) (t 293) _ _ _ _ _ _ _ refl refl refl
-    (a_formula _ _ _
-    (expression_of_postfix (a_child (t 295) (t 296) _ _ _ (postfix_of_atom (a_leaf (t 294) _ refl)) refl refl)))
-    (a_block (t 297) (t 300) _ _ _ refl
-    (more_statements _ _ _ _ _ _
-    (a_delete (t 298) _ _ _ refl (a_formula _ _ _ (expression_of_atom (a_leaf (t 299) _ refl)))) no_statements)
-    refl))
-    (more_statements _ _ _ _ _ _
-    (a_check (t 301) (t 303) (t 304) _ _ _ _ refl (a_formula _ _ _ (expression_of_atom (a_leaf (t 302) _ refl))) refl refl)
-    no_statements))
-    refl))
+    one_procedure _ _ _ (a_procedure (t 281) (t 282) _ _ _ _ _ _ _ _ refl refl (some_parameters (t 283) (t 287) _ _ _ refl (one_parameter _ _ _ (a_parameter (t 284) (t 285) _ _ _ _ refl refl (objects _ _ _ (a_path _ _ _ (one_name (t 286) _ _ refl))))) (omega arith) refl) (stated _ _ _ (an_allow (t 288) _ _ _ refl (a_formula _ _ (expression_of_atom (a_leaf (t 289) _ refl)) refl refl refl))) (a_block _ (t 290) (t 305) _ _ _ refl (more_statements _ _ _ _ _ _ (a_for _ (t 291) (t 292) (t 293) _ _ _ _ _ _ refl refl refl (a_formula _ _ (expression_of_postfix (a_child (t 295) (t 296) _ _ _ (postfix_of_atom (a_leaf (t 294) _ refl)) refl refl)) refl refl refl) (a_block _ (t 297) (t 300) _ _ _ refl (more_statements _ _ _ _ _ _ (a_delete _ (t 298) _ _ _ refl (a_formula _ _ (expression_of_atom (a_leaf (t 299) _ refl)) refl refl refl)) (no_statements _ _)) refl)) (more_statements _ _ _ _ _ _ (a_check _ (t 301) (t 303) (t 304) _ _ _ _ refl (a_formula _ _ (expression_of_atom (a_leaf (t 302) _ refl)) refl refl refl) refl refl) (no_statements _ _))) refl))
 
-declaration_12_is : IsDeclaration (from 306 34) (the 11) (record { depth = 2; nest = 0; blocks = 0 })
+declaration_12_is : IsDeclaration limits 16 (behind 306) (the 19 1) (behind 340)
 declaration_12_is =
-    one_view _ _ _
-    (a_view (t 306) (t 307) (t 310) (t 339) _ _ _ _ _ _ _ _ _ refl refl (no_parameters (t 308) (t 309) refl refl) left_out refl
-    (one_more _ _ _ _ _ _
-    (one_show _ _ _
-    (a_show (t 311) (t 312) (t 313) _ _ _ _ refl refl refl
-    (a_formula _ _ _
-    (expression_of_postfix (a_child (t 315) (t 316) _ _ _ (postfix_of_atom (a_leaf (t 314) _ refl)) refl refl)))))
-    (one_more _ _ _ _ _ _
-    (a_table (t 317) (t 318) (t 319) (t 320) (t 321) (t 325) (t 338) _ _ _ _ _ _ _ _ refl refl refl refl refl
-    (a_formula _ _ _
-    (expression_of_postfix (a_child (t 323) (t 324) _ _ _ (postfix_of_atom (a_leaf (t 322) _ refl)) refl refl)))
-    refl
-    (one_more _ _ _ _ _ _
-    (a_show (t 326) (t 327) (t 328) _ _ _ _ refl refl refl
-    (a_formula _ _ _
-    (expression_of_postfix (a_child (t 330) (t 331) _ _ _ (postfix_of_atom (a_leaf (t 329) _ refl)) refl refl))))
-    (one_more _ _ _ _ _ _
-    (a_show (t 332) (t 333) (t 334) _ _ _ _ refl refl refl
-    (a_formula _ _ _
-    (expression_of_postfix
-    (a_child (t 336) (t 337) _ _ _ (postfix_of_atom (a_leaf (t 335) _ refl)) refl refl))))
-    none))
-    refl)
-    none))
-    refl)
+    one_view _ _ _ (a_view (t 306) (t 307) (t 310) (t 339) _ _ _ _ _ _ _ _ refl refl (no_parameters (t 308) (t 309) _ refl refl) (left_out _) refl (one_more _ _ _ _ _ (one_show _ _ _ (a_show (t 311) (t 312) (t 313) _ _ _ _ refl refl refl (a_formula _ _ (expression_of_postfix (a_child (t 315) (t 316) _ _ _ (postfix_of_atom (a_leaf (t 314) _ refl)) refl refl)) refl refl refl))) (one_more _ _ _ _ _ (a_table (t 317) (t 318) (t 319) (t 320) (t 321) (t 325) (t 338) _ _ _ _ _ _ _ refl refl refl refl refl (a_formula _ _ (expression_of_postfix (a_child (t 323) (t 324) _ _ _ (postfix_of_atom (a_leaf (t 322) _ refl)) refl refl)) refl refl refl) refl (one_more _ _ _ _ _ (a_show (t 326) (t 327) (t 328) _ _ _ _ refl refl refl (a_formula _ _ (expression_of_postfix (a_child (t 330) (t 331) _ _ _ (postfix_of_atom (a_leaf (t 329) _ refl)) refl refl)) refl refl refl)) (one_more _ _ _ _ _ (a_show (t 332) (t 333) (t 334) _ _ _ _ refl refl refl (a_formula _ _ (expression_of_postfix (a_child (t 336) (t 337) _ _ _ (postfix_of_atom (a_leaf (t 335) _ refl)) refl refl)) refl refl refl)) (none _))) refl) (none _))) refl)
 
-declaration_13_is : IsDeclaration (from 340 37) (the 12) (record { depth = 3; nest = 1; blocks = 0 })
+declaration_13_is : IsDeclaration limits 16 (behind 340) (the 20 1) (behind 377)
 declaration_13_is =
-    one_view _ _ _
-    (a_view (t 340) (t 341) (t 346) (t 376) _ _ _ _ _ _ _ _ _ refl refl (no_parameters (t 342) (t 343) refl refl)
-    (stated _ _ _ (an_allow (t 344) _ _ _ refl (a_formula _ _ _ (expression_of_atom (a_leaf (t 345) _ refl))))) refl
-    (one_more _ _ _ _ _ _
-    (a_table (t 347) (t 348) (t 349) (t 350) (t 351) (t 353) (t 366) _ _ _ _ _ _ _ _ refl refl refl refl refl
-    (a_formula _ _ _ (expression_of_atom (a_leaf (t 352) _ refl))) refl
-    (one_more _ _ _ _ _ _
-    (a_show (t 354) (t 355) (t 356) _ _ _ _ refl refl refl
-    (a_formula _ _ _
-    (expression_of_postfix (a_child (t 358) (t 359) _ _ _ (postfix_of_atom (a_leaf (t 357) _ refl)) refl refl))))
-    (one_more _ _ _ _ _ _
-    (a_show (t 360) (t 361) (t 362) _ _ _ _ refl refl refl
-    (a_formula _ _ _
-    (expression_of_postfix (a_child (t 364) (t 365) _ _ _ (postfix_of_atom (a_leaf (t 363) _ refl)) refl refl))))
-    none))
-    refl)
-    (one_more _ _ _ _ _ _
-    (one_show _ _ _
-    (a_show (t 367) (t 368) (t 369) _ _ _ _ refl refl refl
-    (a_formula _ _ _
-    (expression_of_atom
-    (a_call (t 370) (t 371) (t 375) _ _ _ refl refl
-    (expression_of_postfix
-    (a_child (t 373) (t 374) _ _ _ (postfix_of_atom (a_leaf (t 372) _ refl)) refl refl))
-    refl)))))
-    none))
-    refl)
+    one_view _ _ _ (a_view (t 340) (t 341) (t 346) (t 376) _ _ _ _ _ _ _ _ refl refl (no_parameters (t 342) (t 343) _ refl refl) (stated _ _ _ (an_allow (t 344) _ _ _ refl (a_formula _ _ (expression_of_atom (a_leaf (t 345) _ refl)) refl refl refl))) refl (one_more _ _ _ _ _ (a_table (t 347) (t 348) (t 349) (t 350) (t 351) (t 353) (t 366) _ _ _ _ _ _ _ refl refl refl refl refl (a_formula _ _ (expression_of_atom (a_leaf (t 352) _ refl)) refl refl refl) refl (one_more _ _ _ _ _ (a_show (t 354) (t 355) (t 356) _ _ _ _ refl refl refl (a_formula _ _ (expression_of_postfix (a_child (t 358) (t 359) _ _ _ (postfix_of_atom (a_leaf (t 357) _ refl)) refl refl)) refl refl refl)) (one_more _ _ _ _ _ (a_show (t 360) (t 361) (t 362) _ _ _ _ refl refl refl (a_formula _ _ (expression_of_postfix (a_child (t 364) (t 365) _ _ _ (postfix_of_atom (a_leaf (t 363) _ refl)) refl refl)) refl refl refl)) (none _))) refl) (one_more _ _ _ _ _ (one_show _ _ _ (a_show (t 367) (t 368) (t 369) _ _ _ _ refl refl refl (a_formula _ _ (expression_of_atom (a_call (t 370) (t 371) (t 375) _ _ _ refl refl (expression_of_postfix (a_child (t 373) (t 374) _ _ _ (postfix_of_atom (a_leaf (t 372) _ refl)) refl refl)) refl)) refl refl refl))) (none _))) refl)
 
 pub club_is_read : ClubIsRead
 unfolding is_utf8 chars encode is_reserved
@@ -450,10 +162,6 @@ club_is_read = record {
   encoded = refl;
   tokens = tokens;
   told = refl;
-  reach = record { depth = 4; nest = 1; blocks = 2 };
   produced =
-      one_more _ _ _ _ _ _ declaration_1_is (one_more _ _ _ _ _ _ declaration_2_is (one_more _ _ _ _ _ _ declaration_3_is (one_more _ _ _ _ _ _ declaration_4_is (one_more _ _ _ _ _ _ declaration_5_is (one_more _ _ _ _ _ _ declaration_6_is (one_more _ _ _ _ _ _ declaration_7_is (one_more _ _ _ _ _ _ declaration_8_is (one_more _ _ _ _ _ _ declaration_9_is (one_more _ _ _ _ _ _ declaration_10_is (one_more _ _ _ _ _ _ declaration_11_is (one_more _ _ _ _ _ _ declaration_12_is (one_more _ _ _ _ _ _ declaration_13_is none))))))))))));
-  shallow = omega arith;
-  narrow = omega arith;
-  open_blocks = omega arith;
+      more_declarations _ _ _ _ declaration_1_is (more_declarations _ _ _ _ declaration_2_is (more_declarations _ _ _ _ declaration_3_is (more_declarations _ _ _ _ declaration_4_is (more_declarations _ _ _ _ declaration_5_is (more_declarations _ _ _ _ declaration_6_is (more_declarations _ _ _ _ declaration_7_is (more_declarations _ _ _ _ declaration_8_is (more_declarations _ _ _ _ declaration_9_is (more_declarations _ _ _ _ declaration_10_is (more_declarations _ _ _ _ declaration_11_is (more_declarations _ _ _ _ declaration_12_is (more_declarations _ _ _ _ declaration_13_is no_declarations))))))))))));
 }

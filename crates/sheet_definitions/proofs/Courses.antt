@@ -7,13 +7,12 @@ use Rattle.sheet_tokens.specs.declared.token.Token.{Token}
 use Rattle.sheet_tokens.specs.Tokens.{is_reserved}
 use Rattle.sheet_trees.specs.declared.operators.Operator.TheVariants as operator
 use Rattle.sheet_trees.specs.declared.operators.Level.TheVariants as level
-use Rattle.sheet_definitions.specs.declared.definition.Declaration.TheVariants as declaration
 use Rattle.sheet_trees.specs.Grammar.{an_operation, a_child, a_leaf, a_call}
 use Rattle.sheet_definitions.specs.declared.definition.Declaration.{Declaration}
-use Rattle.sheet_definitions.specs.Grammar.{IsDefinition, IsDeclaration, left_out, stated, none, one_more, a_formula, one_name, a_path, numbers, texts, truths, objects, a_number, just_one, a_first, a_declared, an_allow, an_object_column, a_state_column, a_formula_column, no_columns, more_columns, a_parameter, one_parameter, more_parameters, no_parameters, some_parameters, of_object, an_assignment, a_delete, an_if_else, a_for, no_statements, more_statements, a_block, a_procedure, a_show, a_table, a_view, the_callers, a_column, one_procedure, one_view}
+use Rattle.sheet_definitions.specs.Grammar.{IsDefinition, IsDeclaration, left_out, stated, none, one_more, one_name, a_path, numbers, texts, truths, objects, a_number, just_one, a_first, a_declared, an_allow, an_object_column, a_state_column, a_formula_column, no_columns, more_columns, a_parameter, one_parameter, more_parameters, no_parameters, some_parameters, of_object, an_assignment, a_delete, an_if_else, a_for, no_statements, more_statements, a_block, a_procedure, a_show, a_table, a_view, the_callers, a_column, one_procedure, one_view, no_declarations, more_declarations}
 use Rattle.sheet_definitions.specs.Examples.{courses, courses_text}
 use Rattle.sheet_definitions.proofs.Tokens.{word, name, symbol, number}
-use Rattle.sheet_definitions.proofs.Lifting.{expression_of_atom, expression_of_postfix, expression_of_sums, postfix_of_atom, products_of_atom, sums_of_atom}
+use Rattle.sheet_definitions.proofs.Lifting.{limits, a_formula, expression_of_atom, expression_of_postfix, expression_of_sums, postfix_of_atom, products_of_atom, sums_of_atom}
 
 -- the tokens, with the offset and the line of each
 abbrev tokens : List Token
@@ -49,105 +48,33 @@ tokens =
 abbrev t : ℕ → Token
 t k = slice_index_or tokens k (word "" 0 0)
 
--- the declaration at that place
-abbrev the : ℕ → Declaration
-the k = slice_index_or courses.declarations k (declaration.Callers 0 (record { line = 0; names = [] }))
+-- so many declarations from that place on
+abbrev the : ℕ → ℕ → List Declaration
+the k count = take count (drop k courses.declarations)
 
--- so many tokens from that place on
-abbrev from : ℕ → ℕ → List Token
-from k count = take count (drop k tokens)
+-- the tokens from that place on
+abbrev behind : ℕ → List Token
+behind k = drop k tokens
 
-declaration_1_is : IsDeclaration (from 0 2) (the 0) (record { depth = 0; nest = 0; blocks = 0 })
+declaration_1_is : IsDeclaration limits 16 (behind 0) (the 0 1) (behind 2)
 declaration_1_is =
-    the_callers (t 0) _ _ refl (a_path _ _ (one_name (t 1) _ refl))
+    the_callers (t 0) _ _ _ refl (a_path _ _ _ (one_name (t 1) _ _ refl))
 
-declaration_2_is : IsDeclaration (from 2 9) (the 1) (record { depth = 0; nest = 0; blocks = 0 })
+declaration_2_is : IsDeclaration limits 16 (behind 2) (the 1 2) (behind 11)
 declaration_2_is =
-    a_column _ _ _
-    (an_object_column (t 2) (t 3) (t 4) (t 10) _ _ _ _ refl refl refl
-    (more_columns _ _ _ _ _ _
-    (a_state_column (t 5) (t 6) (t 7) _ _ _ _ _ _ _ _ refl refl refl (texts (t 8) refl) (just_one (t 9) refl) left_out) no_columns)
-    refl)
+    a_column _ _ _ (an_object_column _ (t 2) (t 3) (t 4) (t 10) _ _ _ _ refl refl refl (more_columns _ _ _ _ _ _ (a_state_column _ (t 5) (t 6) (t 7) _ _ _ _ _ _ _ _ refl refl refl (texts (t 8) _ refl) (just_one (t 9) _ refl) (left_out _)) (no_columns _ _)) refl)
 
-declaration_3_is : IsDeclaration (from 11 31) (the 2) (record { depth = 3; nest = 1; blocks = 0 })
+declaration_3_is : IsDeclaration limits 16 (behind 11) (the 3 5) (behind 42)
 declaration_3_is =
-    a_column _ _ _
-    (an_object_column (t 11) (t 12) (t 13) (t 41) _ _ _ _ refl refl refl
-    (more_columns _ _ _ _ _ _
-    (a_state_column (t 14) (t 15) (t 16) _ _ _ _ _ _ _ _ refl refl refl (numbers (t 17) refl) (just_one (t 18) refl)
-    (stated _ _ _ (a_first (t 19) _ _ refl (a_number (t 20) _ refl))))
-    (more_columns _ _ _ _ _ _
-    (an_object_column (t 21) (t 22) (t 23) (t 29) _ _ _ _ refl refl refl
-    (more_columns _ _ _ _ _ _
-    (a_state_column (t 24) (t 25) (t 26) _ _ _ _ _ _ _ _ refl refl refl
-    (objects _ _ (a_path _ _ (one_name (t 27) _ refl))) (just_one (t 28) refl) left_out)
-    no_columns)
-    refl)
-    (more_columns _ _ _ _ _ _
-    (a_formula_column (t 30) (t 31) (t 34) _ _ _ _ _ _ _ refl refl
-    (stated _ _ _ (a_declared (t 32) _ _ refl (numbers (t 33) refl))) refl
-    (a_formula _ _ _
-    (expression_of_sums
-    (an_operation level.Sums operator.Minus (t 36) _ _ _ _ (sums_of_atom (a_leaf (t 35) _ refl)) refl
-    (products_of_atom
-    (a_call (t 37) (t 38) (t 40) _ _ _ refl refl (expression_of_atom (a_leaf (t 39) _ refl)) refl))))))
-    no_columns)))
-    refl)
+    a_column _ _ _ (an_object_column _ (t 11) (t 12) (t 13) (t 41) _ _ _ _ refl refl refl (more_columns _ _ _ _ _ _ (a_state_column _ (t 14) (t 15) (t 16) _ _ _ _ _ _ _ _ refl refl refl (numbers (t 17) _ refl) (just_one (t 18) _ refl) (stated _ _ _ (a_first (t 19) _ _ _ refl (a_number (t 20) _ _ refl)))) (more_columns _ _ _ _ _ _ (an_object_column _ (t 21) (t 22) (t 23) (t 29) _ _ _ _ refl refl refl (more_columns _ _ _ _ _ _ (a_state_column _ (t 24) (t 25) (t 26) _ _ _ _ _ _ _ _ refl refl refl (objects _ _ _ (a_path _ _ _ (one_name (t 27) _ _ refl))) (just_one (t 28) _ refl) (left_out _)) (no_columns _ _)) refl) (more_columns _ _ _ _ _ _ (a_formula_column _ (t 30) (t 31) (t 34) _ _ _ _ _ _ refl refl (stated _ _ _ (a_declared (t 32) _ _ _ refl (numbers (t 33) _ refl))) refl (a_formula _ _ (expression_of_sums (an_operation level.Sums operator.Minus (t 36) _ _ _ _ (sums_of_atom (a_leaf (t 35) _ refl)) refl (products_of_atom (a_call (t 37) (t 38) (t 40) _ _ _ refl refl (expression_of_atom (a_leaf (t 39) _ refl)) refl)))) refl refl refl)) (no_columns _ _)))) refl)
 
-declaration_4_is : IsDeclaration (from 42 38) (the 3) (record { depth = 2; nest = 0; blocks = 3 })
+declaration_4_is : IsDeclaration limits 16 (behind 42) (the 8 1) (behind 80)
 declaration_4_is =
-    one_procedure _ _ _
-    (a_procedure (t 42) (t 43) _ _ _ _ _ _ _ _ _ refl refl
-    (some_parameters (t 44) (t 52) _ _ refl
-    (more_parameters _ _ (t 48) _ _
-    (a_parameter (t 45) (t 46) _ _ _ refl refl (objects _ _ (a_path _ _ (one_name (t 47) _ refl)))) refl
-    (one_parameter _ _ (a_parameter (t 49) (t 50) _ _ _ refl refl (truths (t 51) refl))))
-    (omega arith) refl)
-    (stated _ _ _ (an_allow (t 53) _ _ _ refl (a_formula _ _ _ (expression_of_atom (a_leaf (t 54) _ refl)))))
-    (a_block (t 55) (t 79) _ _ _ refl
-    (more_statements _ _ _ _ _ _
-    (an_if_else (t 56) (t 62) _ _ _ _ _ _ _ _ _ refl
-    (a_formula _ _ _ (expression_of_atom (a_leaf (t 57) _ refl)))
-    (a_block (t 58) (t 61) _ _ _ refl
-    (more_statements _ _ _ _ _ _
-    (a_delete (t 59) _ _ _ refl (a_formula _ _ _ (expression_of_atom (a_leaf (t 60) _ refl)))) no_statements)
-    refl)
-    refl
-    (a_block (t 63) (t 78) _ _ _ refl
-    (more_statements _ _ _ _ _ _
-    (a_for (t 64) (t 65) (t 66) _ _ _ _ _ _ _ refl refl refl
-    (a_formula _ _ _
-    (expression_of_postfix
-    (a_child (t 68) (t 69) _ _ _ (postfix_of_atom (a_leaf (t 67) _ refl)) refl refl)))
-    (a_block (t 70) (t 77) _ _ _ refl
-    (more_statements _ _ _ _ _ _
-    (an_assignment (t 71) (t 75) _ _ _ _ _ _ refl
-    (of_object (t 73) (t 74) _ _ _ _ (a_formula _ _ _ (postfix_of_atom (a_leaf (t 72) _ refl)))
-    refl refl)
-    refl
-    (a_formula _ _ _ (expression_of_atom (a_leaf (t 76) _ refl))))
-    no_statements)
-    refl))
-    no_statements)
-    refl))
-    no_statements)
-    refl))
+    one_procedure _ _ _ (a_procedure (t 42) (t 43) _ _ _ _ _ _ _ _ refl refl (some_parameters (t 44) (t 52) _ _ _ refl (more_parameters _ _ _ (t 48) _ _ (a_parameter (t 45) (t 46) _ _ _ _ refl refl (objects _ _ _ (a_path _ _ _ (one_name (t 47) _ _ refl)))) refl (one_parameter _ _ _ (a_parameter (t 49) (t 50) _ _ _ _ refl refl (truths (t 51) _ refl)))) (omega arith) refl) (stated _ _ _ (an_allow (t 53) _ _ _ refl (a_formula _ _ (expression_of_atom (a_leaf (t 54) _ refl)) refl refl refl))) (a_block _ (t 55) (t 79) _ _ _ refl (more_statements _ _ _ _ _ _ (an_if_else _ (t 56) (t 62) _ _ _ _ _ _ _ refl (a_formula _ _ (expression_of_atom (a_leaf (t 57) _ refl)) refl refl refl) (a_block _ (t 58) (t 61) _ _ _ refl (more_statements _ _ _ _ _ _ (a_delete _ (t 59) _ _ _ refl (a_formula _ _ (expression_of_atom (a_leaf (t 60) _ refl)) refl refl refl)) (no_statements _ _)) refl) refl (a_block _ (t 63) (t 78) _ _ _ refl (more_statements _ _ _ _ _ _ (a_for _ (t 64) (t 65) (t 66) _ _ _ _ _ _ refl refl refl (a_formula _ _ (expression_of_postfix (a_child (t 68) (t 69) _ _ _ (postfix_of_atom (a_leaf (t 67) _ refl)) refl refl)) refl refl refl) (a_block _ (t 70) (t 77) _ _ _ refl (more_statements _ _ _ _ _ _ (an_assignment _ (t 71) (t 75) _ _ _ _ _ refl (of_object (t 73) (t 74) _ _ _ _ (a_formula _ _ (postfix_of_atom (a_leaf (t 72) _ refl)) refl refl refl) refl refl) refl (a_formula _ _ (expression_of_atom (a_leaf (t 76) _ refl)) refl refl refl)) (no_statements _ _)) refl)) (no_statements _ _)) refl)) (no_statements _ _)) refl))
 
-declaration_5_is : IsDeclaration (from 80 20) (the 4) (record { depth = 2; nest = 0; blocks = 0 })
+declaration_5_is : IsDeclaration limits 16 (behind 80) (the 9 1) (behind 100)
 declaration_5_is =
-    one_view _ _ _
-    (a_view (t 80) (t 81) (t 84) (t 99) _ _ _ _ _ _ _ _ _ refl refl (no_parameters (t 82) (t 83) refl refl) left_out refl
-    (one_more _ _ _ _ _ _
-    (a_table (t 85) (t 86) (t 87) (t 88) (t 89) (t 91) (t 98) _ _ _ _ _ _ _ _ refl refl refl refl refl
-    (a_formula _ _ _ (expression_of_atom (a_leaf (t 90) _ refl))) refl
-    (one_more _ _ _ _ _ _
-    (a_show (t 92) (t 93) (t 94) _ _ _ _ refl refl refl
-    (a_formula _ _ _
-    (expression_of_postfix (a_child (t 96) (t 97) _ _ _ (postfix_of_atom (a_leaf (t 95) _ refl)) refl refl))))
-    none)
-    refl)
-    none)
-    refl)
+    one_view _ _ _ (a_view (t 80) (t 81) (t 84) (t 99) _ _ _ _ _ _ _ _ refl refl (no_parameters (t 82) (t 83) _ refl refl) (left_out _) refl (one_more _ _ _ _ _ (a_table (t 85) (t 86) (t 87) (t 88) (t 89) (t 91) (t 98) _ _ _ _ _ _ _ refl refl refl refl refl (a_formula _ _ (expression_of_atom (a_leaf (t 90) _ refl)) refl refl refl) refl (one_more _ _ _ _ _ (a_show (t 92) (t 93) (t 94) _ _ _ _ refl refl refl (a_formula _ _ (expression_of_postfix (a_child (t 96) (t 97) _ _ _ (postfix_of_atom (a_leaf (t 95) _ refl)) refl refl)) refl refl refl)) (none _)) refl) (none _)) refl)
 
 pub courses_is_read : IsDefinition courses_text courses
 unfolding is_utf8 chars encode is_reserved
@@ -156,10 +83,6 @@ courses_is_read = record {
   encoded = refl;
   tokens = tokens;
   told = refl;
-  reach = record { depth = 3; nest = 1; blocks = 3 };
   produced =
-      one_more _ _ _ _ _ _ declaration_1_is (one_more _ _ _ _ _ _ declaration_2_is (one_more _ _ _ _ _ _ declaration_3_is (one_more _ _ _ _ _ _ declaration_4_is (one_more _ _ _ _ _ _ declaration_5_is none))));
-  shallow = omega arith;
-  narrow = omega arith;
-  open_blocks = omega arith;
+      more_declarations _ _ _ _ declaration_1_is (more_declarations _ _ _ _ declaration_2_is (more_declarations _ _ _ _ declaration_3_is (more_declarations _ _ _ _ declaration_4_is (more_declarations _ _ _ _ declaration_5_is no_declarations))));
 }

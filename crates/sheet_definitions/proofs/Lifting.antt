@@ -1,9 +1,12 @@
 -- A formula of one level is a formula of every looser level.
-use Rattle.std.proofs.Common.{List}
+use Rattle.std.proofs.Common.{List, ◌++◌, ◌≡◌, true}
+use Rattle.std.specs.Prelude.{nat_le}
+use Rattle.std.proofs.lemmas.Bool.{leb-true}
 use Rattle.sheet_tokens.specs.declared.token.Token.{Token}
 use Rattle.sheet_trees.specs.declared.operators.Level.TheVariants as level
 use Rattle.sheet_trees.specs.declared.operators.Prefix.TheVariants as prefix
-use Rattle.sheet_trees.specs.Grammar.{Form, Produces, expression, chain, negation, unary, postfix, atom, no_choice, an_operand, no_prefix, no_step}
+use Rattle.sheet_definitions.specs.Grammar.{Limits, IsFormulaOf}
+use Rattle.sheet_trees.specs.Grammar.{Nonterminal, Form, Produces, expression, chain, negation, unary, postfix, atom, no_choice, an_operand, no_prefix, no_step}
 
 module _ {ts : List Token} {f : Form} where
   pub postfix_of_atom : Produces atom ts f → Produces postfix ts f
@@ -59,3 +62,13 @@ module _ {ts : List Token} {f : Form} where
 
   pub negation_of_atom : Produces atom ts f → Produces negation ts f
   negation_of_atom d = negation_of_comparison (an_operand level.Comparison _ _ (sets_of_atom d))
+
+-- the limits of definitions
+abbrev pub limits : Limits
+limits = record { depth = 32; nest = 32 }
+
+-- what was derived stands at the front of the tokens
+pub a_formula : {n : Nonterminal} {ts us : List Token} (front : List Token) (f : Form) → Produces n front f → ts ≡ front ++ us → nat_le f.depth 32 ≡ true → nat_le f.nest 32 ≡ true
+    → IsFormulaOf limits n ts f.tree us
+a_formula front f d split shallow narrow =
+    record { front = front; depth = f.depth; nest = f.nest; split = split; produced = d; shallow = leb-true f.depth 32 shallow; narrow = leb-true f.nest 32 narrow }

@@ -5,13 +5,14 @@ use Rattle.sheet_trees.specs.declared.operators.Function.TheVariants as function
 use Rattle.sheet_trees.specs.declared.operators.Gathering.TheVariants as gathering
 use Rattle.sheet_trees.specs.declared.tree.Tree.TheVariants as tree
 use Rattle.sheet_definitions.specs.declared.definition.TypeName.TheVariants as type
-use Rattle.sheet_definitions.specs.declared.definition.Column.TheVariants as column
+use Rattle.sheet_definitions.specs.declared.definition.Content.TheVariants as content
 use Rattle.sheet_definitions.specs.declared.definition.Part.TheVariants as part
 use Rattle.sheet_definitions.specs.declared.definition.Declaration.TheVariants as declaration
 use Rattle.sheet_definitions.specs.declared.statement.Statement.TheVariants as statement
 use Rattle.sheet_definitions.specs.declared.definition.Definition.{Definition}
 use Rattle.sheet_definitions.specs.Grammar.{IsDefinition}
 use Rattle.sheet_definitions.specs.Printing.{definition_text}
+use Rattle.sheet_definitions.specs.Examples.{column}
 
 abbrev pub club_text : List ℕ
 club_text =
@@ -91,21 +92,20 @@ club =
     record {
       declarations =
           declaration.Callers 1 (record { line = 1; names = codes "Member" ∷ [] })
-          ∷ declaration.Column (column.Object 2 (codes "Course")
-          (column.State 3 (codes "title") type.Text true None
-          ∷ column.State 4 (codes "capacity") type.Number true None
-          ∷ column.Object 5 (codes "Seat")
-          (column.State 6 (codes "member") (type.Object (record { line = 6; names = codes "Member" ∷ [] })) true None ∷ [])
-          ∷ column.Formula 8 (codes "taken") None (tree.Child 8 (tree.Name 8 (codes "Seat")) (codes "member"))
-          ∷ column.Formula 9 (codes "free") None
-          (tree.Binary 9 operator.Minus (tree.Name 9 (codes "capacity")) (tree.Call 9 function.Count (tree.Name 9 (codes "Seat"))))
-          ∷ []))
-          ∷ declaration.Column (column.Object 11 (codes "Member")
-          (column.State 12 (codes "name") type.Text true None
-          ∷ column.Formula 13 (codes "courses") None
+          ∷ column 0 2 (codes "Course") content.Object
+          ∷ column 1 3 (codes "title") (content.State type.Text true None)
+          ∷ column 1 4 (codes "capacity") (content.State type.Number true None)
+          ∷ column 1 5 (codes "Seat") content.Object
+          ∷ column 2 6 (codes "member") (content.State (type.Object (record { line = 6; names = codes "Member" ∷ [] })) true None)
+          ∷ column 1 8 (codes "taken") (content.Formula None (tree.Child 8 (tree.Name 8 (codes "Seat")) (codes "member")))
+          ∷ column 1 9 (codes "free")
+          (content.Formula None (tree.Binary 9 operator.Minus (tree.Name 9 (codes "capacity")) (tree.Call 9 function.Count (tree.Name 9 (codes "Seat")))))
+          ∷ column 0 11 (codes "Member") content.Object
+          ∷ column 1 12 (codes "name") (content.State type.Text true None)
+          ∷ column 1 13 (codes "courses")
+          (content.Formula None
           (tree.GatherWhere 13 gathering.Union (tree.Name 13 (codes "c")) (codes "c") (tree.Name 13 (codes "Course"))
-          (tree.Binary 13 operator.In (tree.This 13) (tree.Child 13 (tree.Name 13 (codes "c")) (codes "taken"))))
-          ∷ []))
+          (tree.Binary 13 operator.In (tree.This 13) (tree.Child 13 (tree.Name 13 (codes "c")) (codes "taken")))))
           ∷ declaration.Procedure (record {
             line = 15;
             name = codes "add_course";

@@ -7,13 +7,19 @@ use Rattle.sheet_trees.specs.declared.operators.Quantifier.TheVariants as quanti
 use Rattle.sheet_trees.specs.declared.tree.Tree.TheVariants as tree
 use Rattle.sheet_definitions.specs.declared.definition.TypeName.TheVariants as type
 use Rattle.sheet_definitions.specs.declared.definition.Literal.TheVariants as literal
-use Rattle.sheet_definitions.specs.declared.definition.Column.TheVariants as column
+use Rattle.sheet_definitions.specs.declared.definition.Content.{Content}
+use Rattle.sheet_definitions.specs.declared.definition.Content.TheVariants as content
+use Rattle.sheet_definitions.specs.declared.definition.Declaration.{Declaration}
 use Rattle.sheet_definitions.specs.declared.definition.Part.TheVariants as part
 use Rattle.sheet_definitions.specs.declared.definition.Declaration.TheVariants as declaration
 use Rattle.sheet_definitions.specs.declared.statement.Statement.TheVariants as statement
 use Rattle.sheet_definitions.specs.declared.definition.Definition.{Definition}
 use Rattle.sheet_definitions.specs.Grammar.{IsDefinition}
 use Rattle.sheet_definitions.specs.Printing.{definition_text}
+
+-- a column of that depth, line, name and content
+abbrev pub column : ℕ → ℕ → List ℕ → Content → Declaration
+column depth line name held = declaration.Column (record { depth = depth; line = line; name = name; content = held })
 
 abbrev pub courses_text : List ℕ
 courses_text =
@@ -48,14 +54,15 @@ courses =
     record {
       declarations =
           declaration.Callers 1 (record { line = 1; names = codes "Member" ∷ [] })
-          ∷ declaration.Column (column.Object 2 (codes "Member") (column.State 3 (codes "name") type.Text true None ∷ []))
-          ∷ declaration.Column (column.Object 5 (codes "Course")
-          (column.State 6 (codes "capacity") type.Number true (Some (literal.Number 6 (pos 8)))
-          ∷ column.Object 7 (codes "Seat")
-          (column.State 8 (codes "member") (type.Object (record { line = 8; names = codes "Member" ∷ [] })) true None ∷ [])
-          ∷ column.Formula 10 (codes "free") (Some type.Number)
-          (tree.Binary 10 operator.Minus (tree.Name 10 (codes "capacity")) (tree.Call 10 function.Count (tree.Name 10 (codes "Seat"))))
-          ∷ []))
+          ∷ column 0 2 (codes "Member") content.Object
+          ∷ column 1 3 (codes "name") (content.State type.Text true None)
+          ∷ column 0 5 (codes "Course") content.Object
+          ∷ column 1 6 (codes "capacity") (content.State type.Number true (Some (literal.Number 6 (pos 8))))
+          ∷ column 1 7 (codes "Seat") content.Object
+          ∷ column 2 8 (codes "member") (content.State (type.Object (record { line = 8; names = codes "Member" ∷ [] })) true None)
+          ∷ column 1 10 (codes "free")
+          (content.Formula (Some type.Number)
+          (tree.Binary 10 operator.Minus (tree.Name 10 (codes "capacity")) (tree.Call 10 function.Count (tree.Name 10 (codes "Seat")))))
           ∷ declaration.Procedure (record {
             line = 12;
             name = codes "leave";
@@ -117,15 +124,14 @@ abbrev pub workshop : Definition
 workshop =
     record {
       declarations =
-          declaration.Column (column.State 1 (codes "open") type.Truth true (Some (literal.Truth 1 true)))
-          ∷ declaration.Column (column.State 2 (codes "least") type.Number false (Some (literal.Negative 2 (pos 3))))
-          ∷ declaration.Column (column.State 3 (codes "title") type.Text true (Some (literal.Text 3 (codes "say \"go\""))))
-          ∷ declaration.Column (column.Object 4 (codes "Order")
-          (column.State 5 (codes "notes") type.Text false None
-          ∷ column.State 6 (codes "paid") type.Truth true (Some (literal.Truth 6 false))
-          ∷ column.Object 7 (codes "Line")
-          (column.State 8 (codes "parts") (type.Object (record { line = 8; names = codes "Order" ∷ codes "Line" ∷ [] })) false None ∷ [])
-          ∷ []))
+          column 0 1 (codes "open") (content.State type.Truth true (Some (literal.Truth 1 true)))
+          ∷ column 0 2 (codes "least") (content.State type.Number false (Some (literal.Negative 2 (pos 3))))
+          ∷ column 0 3 (codes "title") (content.State type.Text true (Some (literal.Text 3 (codes "say \"go\""))))
+          ∷ column 0 4 (codes "Order") content.Object
+          ∷ column 1 5 (codes "notes") (content.State type.Text false None)
+          ∷ column 1 6 (codes "paid") (content.State type.Truth true (Some (literal.Truth 6 false)))
+          ∷ column 1 7 (codes "Line") content.Object
+          ∷ column 2 8 (codes "parts") (content.State (type.Object (record { line = 8; names = codes "Order" ∷ codes "Line" ∷ [] })) false None)
           ∷ declaration.Procedure (record {
             line = 11;
             name = codes "move";

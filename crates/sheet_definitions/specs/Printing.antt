@@ -1,5 +1,5 @@
 -- The text that a definition is printed as.
-use Rattle.std.specs.Prelude.{ℕ, List, [], ◌++◌, length, flat_map, Bool, true, false, Option, Some, None, codes}
+use Rattle.std.specs.Prelude.{ℕ, zero, suc, ◌+◌, ◌-◌, List, [], ◌∷◌, ◌++◌, length, flat_map, Bool, true, false, Option, Some, None, codes}
 use Rattle.std.specs.Fmt.{signed_decimal}
 use Rattle.std.specs.List.{join_by}
 use Rattle.sheet_trees.specs.declared.tree.Tree.{Tree}
@@ -9,7 +9,9 @@ use Rattle.sheet_definitions.specs.declared.definition.TypeName.{TypeName}
 use Rattle.sheet_definitions.specs.declared.definition.TypeName.TheVariants as type
 use Rattle.sheet_definitions.specs.declared.definition.Literal.{Literal}
 use Rattle.sheet_definitions.specs.declared.definition.Literal.TheVariants as literal
-use Rattle.sheet_definitions.specs.declared.definition.Column.{Column, Object', State, Formula, Row_of-Column, end_of-Column as no_column, more_of-Column as more_columns}
+use Rattle.sheet_definitions.specs.declared.definition.Content.{Content}
+use Rattle.sheet_definitions.specs.declared.definition.Content.TheVariants as content
+use Rattle.sheet_definitions.specs.declared.definition.Column.{Column}
 use Rattle.sheet_definitions.specs.declared.definition.Parameter.{Parameter}
 use Rattle.sheet_definitions.specs.declared.definition.Procedure.{Procedure}
 use Rattle.sheet_definitions.specs.declared.definition.Show.{Show}
@@ -62,16 +64,20 @@ abbrev pub declared_text : Option TypeName → List ℕ
 declared_text (Some t) = codes " : " ++ type_text t
 declared_text None = []
 
-abbrev mutual
-  -- a column, behind a margin
-  pub column_text : Column → List ℕ → List ℕ
-  column_text (Object' line name _ columns) margin = braced margin (codes "object " ++ name) (columns_text columns (inside margin))
-  column_text (State line name t one first) margin = line_at margin (codes "state " ++ name ++ codes " : " ++ type_text t ++ one_text one ++ first_text first)
-  column_text (Formula line name t f) margin = line_at margin (codes "formula " ++ name ++ declared_text t ++ codes " = " ++ formula_text f)
+-- the margin inside so many braces
+abbrev pub margin : ℕ → List ℕ
+margin zero = []
+margin (suc depth) = inside (margin depth)
 
-  pub columns_text : {m : _} → Row_of-Column m → List ℕ → List ℕ
-  columns_text no_column margin = []
-  columns_text (more_columns c rest) margin = column_text c margin ++ columns_text rest margin
+-- what stands in the line of a column
+abbrev pub content_text : List ℕ → Content → List ℕ
+content_text name content.Object = (codes "object " ++ name) ++ codes " {"
+content_text name (content.State t one first) = codes "state " ++ name ++ codes " : " ++ type_text t ++ one_text one ++ first_text first
+content_text name (content.Formula t f) = codes "formula " ++ name ++ declared_text t ++ codes " = " ++ formula_text f
+
+-- the line of a column; for an object column the line that opens its braces
+abbrev pub column_text : Column → List ℕ
+column_text c = line_at (margin c.depth) (content_text c.name c.content)
 
 abbrev pub parameter_text : Parameter → List ℕ
 parameter_text p = p.name ++ codes " : " ++ type_text p.values
@@ -131,16 +137,46 @@ part_text margin (part.Table line name variable source shows) =
 abbrev pub view_text : View → List ℕ
 view_text v = braced [] (codes "view " ++ header_text v.name v.parameters v.allow) (flat_map (part_text (inside [])) v.parts)
 
+-- the lines of a declaration, without those that close the braces of an object column
 abbrev pub declaration_text : Declaration → List ℕ
 declaration_text (declaration.Callers line path) = line_at [] (codes "callers " ++ path_text path)
-declaration_text (declaration.Column c) = column_text c []
+declaration_text (declaration.Column c) = column_text c
 declaration_text (declaration.Procedure p) = procedure_text p
 declaration_text (declaration.View v) = view_text v
+
+-- in how many object columns it stands
+abbrev pub depth_of : Declaration → ℕ
+depth_of (declaration.Callers line path) = 0
+depth_of (declaration.Column c) = c.depth
+depth_of (declaration.Procedure p) = 0
+depth_of (declaration.View v) = 0
+
+-- how many object columns are open behind it
+abbrev pub open_inside : ℕ → Content → ℕ
+open_inside depth content.Object = suc depth
+open_inside depth (content.State t one first) = depth
+open_inside depth (content.Formula t f) = depth
+
+abbrev pub open_behind : Declaration → ℕ
+open_behind (declaration.Callers line path) = 0
+open_behind (declaration.Column c) = open_inside c.depth c.content
+open_behind (declaration.Procedure p) = 0
+open_behind (declaration.View v) = 0
+
+-- the lines that close so many braces, down to that depth
+abbrev pub closings : ℕ → ℕ → List ℕ
+closings zero depth = []
+closings (suc count) depth = line_at (margin (depth + count)) (codes "}") ++ closings count depth
+
+-- the lines of declarations, where so many object columns are open before them
+abbrev pub declarations_text : ℕ → List Declaration → List ℕ
+declarations_text opened [] = closings opened 0
+declarations_text opened (d ∷ ds) = closings (opened - depth_of d) (depth_of d) ++ declaration_text d ++ declarations_text (open_behind d) ds
 
 -- Each column, procedure, view, part and statement stands on a line of its own, with two spaces before it for each brace that is
 -- open, and each closing brace too, but for "} else {". Every line ends with LF.
 abbrev pub definition_text : Definition → List ℕ
-definition_text d = flat_map declaration_text d.declarations
+definition_text d = declarations_text 0 d.declarations
 
 -- how many bytes that is
 abbrev pub printed_size : Definition → ℕ

@@ -35,30 +35,33 @@ pub enum Literal {
     Truth(u32, bool),
 }
 
-/// A column, with the line of the word that begins it, from 1.
+/// What a column holds.
 #[derive(Drop)]
-pub enum Column {
-    /// `object c { .. }`: the columns that stand below it.
-    Object {
-        line: u32,
-        name: Name,
-        columns: Items<Column>,
-    },
+pub enum Content {
+    /// `object c { .. }`: objects. The columns in its braces are those declarations behind it that are deeper.
+    Object,
     /// `state c : t one = v`. The word `one` and the first value may be left out.
     State {
-        line: u32,
-        name: Name,
         values: TypeName,
         one: bool,
         first: Option<Literal>,
     },
     /// `formula c : t = e`. The type may be left out.
     Formula {
-        line: u32,
-        name: Name,
         values: Option<TypeName>,
         formula: Tree,
     },
+}
+
+/// A column.
+#[derive(Drop)]
+pub struct Column {
+    /// How many object columns it stands in: 0 directly below the root.
+    pub depth: u32,
+    /// The line of the word that begins it, from 1.
+    pub line: u32,
+    pub name: Name,
+    pub content: Content,
 }
 
 /// A parameter of a procedure or a view.
@@ -117,7 +120,8 @@ pub struct View {
     pub parts: Items<Part>,
 }
 
-/// One of the declarations that a definition is made of.
+/// One of the declarations that a definition is made of. A column that stands in an object column is a declaration of its
+/// own, so that no data is nested as deep as the columns of a text may be.
 #[derive(Drop)]
 pub enum Declaration {
     /// `callers p`, with the line of the word `callers`, from 1.

@@ -8,8 +8,8 @@ mod definition;
 mod statement;
 
 pub use definition::{
-    Column, Declaration, Definition, Literal, Parameter, Part, Path, Procedure, Show, TypeName,
-    View,
+    Column, Content, Declaration, Definition, Literal, Parameter, Part, Path, Procedure, Show,
+    TypeName, View,
 };
 pub use statement::{Statement, Target};
 

@@ -1,15 +1,14 @@
 // The lines of columns.
-ghost use Rattle.std.specs.Prelude.{◌≡◌, ◌++◌, map, flat_map, codes, OnOk};
+ghost use Rattle.std.specs.Prelude.{◌≡◌, ◌-◌, ◌++◌, codes, OnOk};
 ghost use Rattle.sheet_trees.specs.Printing.{formula_text};
-ghost use Rattle.sheet_definitions.specs.Printing.{line_at, inside as inside_margin, braced, type_text, one_text, first_text, declared_text, column_text};
+ghost use Rattle.sheet_definitions.specs.Printing.{line_at, margin, closings, type_text, one_text, first_text, declared_text, content_text, column_text};
 
 use crate::head::{append_declared, append_first, append_one, append_type};
-use crate::line::{append_closing, inside};
-use sheet_definitions::{Column, Literal, TypeName};
+use crate::line::append_margin;
+use sheet_definitions::{Column, Content, Literal, TypeName};
 use sheet_printing::{append, append_formula};
 use sheet_trees::Tree;
 use sheet_values::{Name, NoMemory};
-use std::alloc::Global;
 
 // A type, whether there is one value, and the first value.
 fn append_values(
@@ -27,106 +26,77 @@ fn append_values(
 
 fn append_state(
     out: &mut Vec<u8>,
-    margin: &[u8],
     name: &Name,
     values: &TypeName,
     one: bool,
     first: &Option<Literal>,
 ) -> Result<(), NoMemory>
-    ensures { OnOk result (out.new.items ≡ out.old.items ++ line_at margin.now (codes "state " ++ name.now ++ codes " : " ++ type_text values.now ++ one_text one ++ first_text first.now)) }
+    ensures { OnOk result (out.new.items ≡ out.old.items ++ (codes "state " ++ name.now ++ codes " : " ++ type_text values.now ++ one_text one ++ first_text first.now)) }
 {
-    append(out, margin)?;
     append(out, b"state ")?;
     append(out, name.bytes())?;
     append(out, b" : ")?;
-    append_values(out, values, one, first)?;
-    append(out, b"\n")
+    append_values(out, values, one, first)
 }
 
 fn append_worked(
     out: &mut Vec<u8>,
-    margin: &[u8],
     name: &Name,
     values: &Option<TypeName>,
     formula: &Tree,
 ) -> Result<(), NoMemory>
-    ensures { OnOk result (out.new.items ≡ out.old.items ++ line_at margin.now (codes "formula " ++ name.now ++ declared_text values.now ++ codes " = " ++ formula_text formula.now)) }
+    ensures { OnOk result (out.new.items ≡ out.old.items ++ (codes "formula " ++ name.now ++ declared_text values.now ++ codes " = " ++ formula_text formula.now)) }
 {
-    append(out, margin)?;
     append(out, b"formula ")?;
     append(out, name.bytes())?;
     append_declared(out, values)?;
     append(out, b" = ")?;
-    append_formula(out, formula)?;
-    append(out, b"\n")
+    append_formula(out, formula)
 }
 
-fn append_opening(out: &mut Vec<u8>, margin: &[u8], name: &Name) -> Result<(), NoMemory>
-    ensures { OnOk result (out.new.items ≡ out.old.items ++ line_at margin.now ((codes "object " ++ name.now) ++ codes " {")) }
+fn append_object(out: &mut Vec<u8>, name: &Name) -> Result<(), NoMemory>
+    ensures { OnOk result (out.new.items ≡ out.old.items ++ ((codes "object " ++ name.now) ++ codes " {")) }
 {
-    append(out, margin)?;
     append(out, b"object ")?;
     append(out, name.bytes())?;
-    append(out, b" {\n")
+    append(out, b" {")
 }
 
-// A column with those below it, behind a margin.
-#[cycle(columns)]
-pub(crate) fn append_column(
-    alloc: Global,
-    out: &mut Vec<u8>,
-    margin: &[u8],
-    column: &Column,
-) -> Result<(), NoMemory>
-    ensures { OnOk result (out.new.items ≡ out.old.items ++ column_text column.now margin.now) }
+fn append_content(out: &mut Vec<u8>, name: &Name, content: &Content) -> Result<(), NoMemory>
+    ensures { OnOk result (out.new.items ≡ out.old.items ++ content_text name.now content.now) }
 {
-    match column {
-        Column::Object { name, columns, .. } => {
-            append_object(alloc, out, margin, name, columns.as_slice())
-        }
-        Column::State {
-            name,
-            values,
-            one,
-            first,
-            ..
-        } => append_state(out, margin, name, values, *one, first),
-        Column::Formula {
-            name,
-            values,
-            formula,
-            ..
-        } => append_worked(out, margin, name, values, formula),
+    match content {
+        Content::Object => append_object(out, name),
+        Content::State { values, one, first } => append_state(out, name, values, *one, first),
+        Content::Formula { values, formula } => append_worked(out, name, values, formula),
     }
 }
 
-#[cycle(columns)]
-fn append_object(
-    alloc: Global,
-    out: &mut Vec<u8>,
-    margin: &[u8],
-    name: &Name,
-    columns: &[Column],
-) -> Result<(), NoMemory>
-    ensures { OnOk result (out.new.items ≡ out.old.items ++ braced margin.now (codes "object " ++ name.now) (flat_map (λ c. column_text c (inside_margin margin.now)) columns.now)) }
+// The line of a column.
+pub(crate) fn append_column(out: &mut Vec<u8>, column: &Column) -> Result<(), NoMemory>
+    ensures { OnOk result (out.new.items ≡ out.old.items ++ column_text column.now) }
 {
-    append_opening(out, margin, name)?;
-    let wider = inside(alloc, margin)?;
-    append_columns(alloc, out, wider.as_slice(), columns)?;
-    append_closing(out, margin)
+    append_margin(out, u64::from(column.depth))?;
+    append_content(out, &column.name, &column.content)?;
+    append(out, b"\n")
 }
 
-#[cycle(columns)]
-fn append_columns(
-    alloc: Global,
-    out: &mut Vec<u8>,
-    margin: &[u8],
-    columns: &[Column],
-) -> Result<(), NoMemory>
-    ensures { OnOk result (out.new.items ≡ out.old.items ++ flat_map (λ c. column_text c margin.now) columns.now) }
+// The line that closes the braces of an object column of that depth.
+fn append_end(out: &mut Vec<u8>, depth: u64) -> Result<(), NoMemory>
+    ensures { OnOk result (out.new.items ≡ out.old.items ++ line_at (margin depth) (codes "}")) }
 {
-    for column in columns {
-        append_column(alloc, out, margin, column)?;
+    append_margin(out, depth)?;
+    append(out, b"}\n")
+}
+
+// The lines that close the open braces down to that depth.
+pub(crate) fn append_ends(out: &mut Vec<u8>, from: u64, depth: u64) -> Result<(), NoMemory>
+    ensures { OnOk result (out.new.items ≡ out.old.items ++ closings (from - depth) depth) }
+{
+    let mut left = from;
+    while left > depth {
+        left -= 1;
+        append_end(out, left)?;
     }
     Ok(())
 }

@@ -1,13 +1,15 @@
 // The lines of procedures and views, and whole definitions.
 ghost use Rattle.std.specs.Prelude.{◌≡◌, ◌++◌, [], map, flat_map, codes, IfOk, OnOk};
 ghost use Rattle.sheet_trees.specs.Printing.{formula_text};
-ghost use Rattle.sheet_definitions.specs.Printing.{line_at, inside as inside_margin, braced, path_text, header_text, statement_text, show_text, part_text, declaration_text, definition_text, procedure_text, view_text};
+ghost use Rattle.sheet_definitions.specs.Printing.{line_at, inside as inside_margin, braced, path_text, header_text, statement_text, show_text, part_text, declaration_text, declarations_text, depth_of as depth_of_declaration, open_behind as open_behind_declaration, definition_text, procedure_text, view_text};
 
-use crate::column::append_column;
+use crate::column::{append_column, append_ends};
 use crate::head::{append_header, append_path};
 use crate::line::append_closing;
 use crate::statement::append_inside;
-use sheet_definitions::{Declaration, Definition, Parameter, Part, Path, Procedure, Show, View};
+use sheet_definitions::{
+    Content, Declaration, Definition, Parameter, Part, Path, Procedure, Show, View,
+};
 use sheet_printing::{append, append_formula};
 use sheet_trees::Tree;
 use sheet_values::{Name, NoMemory};
@@ -36,19 +38,48 @@ pub fn append_definition(
     append_declarations(alloc, out, definition.declarations.as_slice())
 }
 
+// In how many object columns a declaration stands.
+fn depth_of(declaration: &Declaration) -> u64
+    ensures { result ≡ depth_of_declaration declaration.now }
+{
+    match declaration {
+        Declaration::Column(column) => u64::from(column.depth),
+        _ => 0,
+    }
+}
+
+// How many object columns are open behind a declaration.
+fn open_behind(declaration: &Declaration) -> u64
+    ensures { result ≡ open_behind_declaration declaration.now }
+{
+    match declaration {
+        Declaration::Column(column) => match column.content {
+            Content::Object => u64::from(column.depth) + 1,
+            _ => u64::from(column.depth),
+        },
+        _ => 0,
+    }
+}
+
 fn append_declarations(
     alloc: Global,
     out: &mut Vec<u8>,
     declarations: &[Declaration],
 ) -> Result<(), NoMemory>
-    ensures { OnOk result (out.new.items ≡ out.old.items ++ flat_map declaration_text declarations.now) }
+    ensures { OnOk result (out.new.items ≡ out.old.items ++ declarations_text 0 declarations.now) }
 {
-    for declaration in declarations {
+    let mut open = 0;
+    let mut rest = declarations;
+    while let Some((declaration, others)) = rest.split_first() {
+        append_ends(out, open, depth_of(declaration))?;
         append_declaration(alloc, out, declaration)?;
+        open = open_behind(declaration);
+        rest = others;
     }
-    Ok(())
+    append_ends(out, open, 0)
 }
 
+// The lines of a declaration, without those that close the braces of an object column.
 fn append_declaration(
     alloc: Global,
     out: &mut Vec<u8>,
@@ -58,7 +89,7 @@ fn append_declaration(
 {
     match declaration {
         Declaration::Callers { path, .. } => append_callers(out, path),
-        Declaration::Column(column) => append_column(alloc, out, b"", column),
+        Declaration::Column(column) => append_column(out, column),
         Declaration::Procedure(procedure) => append_procedure(alloc, out, procedure),
         Declaration::View(view) => append_view(out, view),
     }

@@ -1,6 +1,6 @@
 // Lines and their margins.
 ghost use Rattle.std.specs.Prelude.{◌≡◌, ◌++◌, codes, IfOk, OnOk};
-ghost use Rattle.sheet_definitions.specs.Printing.{inside as inside_margin};
+ghost use Rattle.sheet_definitions.specs.Printing.{inside as inside_margin, margin as margin_of};
 
 use sheet_printing::append;
 use sheet_values::NoMemory;
@@ -21,4 +21,14 @@ pub(crate) fn append_closing(out: &mut Vec<u8>, margin: &[u8]) -> Result<(), NoM
 {
     append(out, margin)?;
     append(out, b"}\n")
+}
+
+// The margin inside so many braces.
+pub(crate) fn append_margin(out: &mut Vec<u8>, depth: u64) -> Result<(), NoMemory>
+    ensures { OnOk result (out.new.items ≡ out.old.items ++ margin_of depth) }
+{
+    for _ in 0..depth {
+        append(out, b"  ")?;
+    }
+    Ok(())
 }

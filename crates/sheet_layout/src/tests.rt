@@ -3,8 +3,8 @@ ghost use Rattle.std.specs.Prelude.{◌≤◌, length};
 
 use crate::print_definition;
 use sheet_definitions::{
-    Column, Declaration, Definition, Literal, Parameter, Part, Path, Procedure, Show, Statement,
-    Target, TypeName, View,
+    Column, Content, Declaration, Definition, Literal, Parameter, Part, Path, Procedure, Show,
+    Statement, Target, TypeName, View,
 };
 use sheet_trees::Tree;
 use sheet_values::{Name, NoMemory};
@@ -18,21 +18,27 @@ fn named(alloc: Global, name: &str) -> Result<Tree, NoMemory>
     Ok(Tree::Name(1, name))
 }
 
-// `object Room { state beds : number one = -2 }`
+// `object Room {`
 fn room(alloc: Global) -> Result<Declaration, NoMemory> {
-    let beds = Column::State {
-        line: 2,
-        name: Name::of(alloc, "beds")?,
-        values: TypeName::Number,
-        one: true,
-        first: Some(Literal::Negative(2, 2)),
-    };
-    let mut columns = Items::new(alloc);
-    columns.push(beds)?;
-    Ok(Declaration::Column(Column::Object {
+    Ok(Declaration::Column(Column {
+        depth: 0,
         line: 1,
         name: Name::of(alloc, "Room")?,
-        columns,
+        content: Content::Object,
+    }))
+}
+
+// `state beds : number one = -2 }`
+fn beds(alloc: Global) -> Result<Declaration, NoMemory> {
+    Ok(Declaration::Column(Column {
+        depth: 1,
+        line: 2,
+        name: Name::of(alloc, "beds")?,
+        content: Content::State {
+            values: TypeName::Number,
+            one: true,
+            first: Some(Literal::Negative(2, 2)),
+        },
     }))
 }
 
@@ -120,6 +126,7 @@ fn printed(alloc: Global) -> Result<Vec<u8>, NoMemory> {
     let mut declarations = Items::new(alloc);
     declarations.push(callers(alloc)?)?;
     declarations.push(room(alloc)?)?;
+    declarations.push(beds(alloc)?)?;
     declarations.push(procedure(alloc)?)?;
     declarations.push(view(alloc)?)?;
     print_definition(alloc, &Definition { declarations })

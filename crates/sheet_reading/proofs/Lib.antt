@@ -1,0 +1,11 @@
+pub mod Answering
+pub mod Clearing
+pub mod Completeness
+pub mod Dots
+pub mod Lengths
+pub mod MarkLemmas
+pub mod Soundness
+pub mod StatementCompleteness
+pub mod StatementSoundness
+pub mod Texts
+pub mod WholeCompleteness
