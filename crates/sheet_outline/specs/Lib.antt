@@ -1,0 +1,10 @@
+pub mod Columns
+pub mod Names
+pub mod Naming
+pub mod Orderly
+pub mod Outlines
+pub mod Resolving
+pub mod Steps
+pub mod Texts
+pub mod Types
+pub mod Within

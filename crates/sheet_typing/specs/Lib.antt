@@ -1,0 +1,6 @@
+pub mod Answers
+pub mod Forms
+pub mod Kinds
+pub mod Names
+pub mod Rules
+pub mod Typing

@@ -1,0 +1,19 @@
+//! The types of formulas, and formulas with their names resolved: definitions with their laws, names, and what each form makes
+//! of its parts.
+#![tactic(auto)]
+
+mod forms;
+mod kinds;
+mod law;
+mod names;
+mod refusal;
+mod scope;
+
+pub use forms::{
+    called, choice, denied, gathered, negated, no_condition, operation, set_of, step, tested, up,
+};
+pub use kinds::{agree, column_above_of, common_kind, kind_text, object_column_of, ordered};
+pub use law::typed_formulas_have_their_kinds;
+pub use names::{named, with_variable, word};
+pub use refusal::TypeRefusal;
+pub use scope::{Scope, Typed, Variable};
