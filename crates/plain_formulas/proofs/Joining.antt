@@ -1,9 +1,7 @@
 -- Parts put together, from the last to the first.
 use Rattle.std.proofs.Common.{◌≡◌, refl, sym, ap, ◌∙◌, List, [], ◌∷◌, ◌++◌}
 use Rattle.std.specs.Prelude.{Ok, Err}
-use Rattle.sheet_columns.specs.declared.fault.Fault.{Fault}
 use Rattle.sheet_meaning.specs.declared.run.Run.{Run}
-use Rattle.sheet_meaning.specs.declared.run.Use.{Use}
 use Rattle.sheet_meaning.specs.Run.{Outcome, given, done, finish, both, all, after, both_outcomes}
 use Rattle.sheet_meaning.specs.Formula.{joined}
 use Rattle.plain_formulas.specs.Forms.{all_joined}

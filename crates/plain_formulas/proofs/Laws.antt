@@ -13,12 +13,10 @@ use Rattle.sheet_columns.specs.declared.formula.Extremum.{Extremum}
 use Rattle.sheet_columns.specs.declared.formula.Quantifier.{Quantifier}
 use Rattle.sheet_columns.specs.declared.formula.Quantifier.TheVariants.{Any, All}
 use Rattle.sheet_columns.specs.declared.fault.Place.{Place}
-use Rattle.sheet_values.specs.Sets.{union}
 use Rattle.sheet_values.specs.declared.value.Value.{Value}
 use Rattle.sheet_meaning.specs.declared.run.Run.{Run}
-use Rattle.sheet_meaning.specs.declared.run.Use.{Use}
 use Rattle.sheet_meaning.specs.Run.{Outcome, finish, run_after, and_then, all}
-use Rattle.sheet_meaning.specs.Formula.{World, Variables, run, run_each, bind, truth, number, step, extent_of, stored_of, worked_of, parent_of, gathered, quantified, joined, single, turn, told, fits}
+use Rattle.sheet_meaning.specs.Formula.{World, Variables, run, run_each, bind, truth, number, step, extent_of, stored_of, worked_of, parent_of, quantified, joined, single, turn, told, fits}
 use Rattle.plain_formulas.specs.Forms.{combined, compared, in_order, calculated, negated, joined_texts, denied, connected, chosen, counted, only, extreme_of, united, singles, turns, number_turns, truths_of, totalled, answered, quantified_over, for_source, values_in}
 
 pub same_if_ok : {A E : Type 0} (r : Result A E) {x y : A} → x ≡ y → IfOk r (λ a. a ≡ x) → IfOk r (λ a. a ≡ y)

@@ -1,14 +1,13 @@
 // The working out of a formula.
 ghost use Rattle.std.specs.Prelude.{◌≡◌, ◌++◌, ◌∷◌, [], IfOk, map};
 ghost use Rattle.sheet_meaning.specs.Formula.{run, bind};
-ghost use Rattle.plain_formulas.specs.Told.{scene};
+ghost use Rattle.plain_lists.specs.Told.{scene};
 
 use crate::forms::{
     calculated, chosen, combined, compared, comprehended, connected, counted, denied, extreme_of,
     in_order, joined_texts, known, negated, only, quantified, set_of, stepped, summed, values_of,
 };
-use crate::lists::{alone, copied};
-use crate::lookup::{Way, WorkedCell, variable};
+use plain_lists::{Way, WorkedCell, alone, copied, variable};
 use sheet_columns::{Core, Place};
 use sheet_meaning::{Run, State};
 use sheet_values::{NoMemory, Value, Values};

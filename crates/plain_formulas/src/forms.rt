@@ -4,14 +4,13 @@ ghost use Rattle.sheet_values.specs.declared.value.Value.TheVariants.{Number};
 ghost use Rattle.sheet_values.specs.Order.{value_cmp};
 ghost use Rattle.sheet_meaning.specs.Run.{done, finish, and_then};
 ghost use Rattle.sheet_meaning.specs.Formula.{told, fits, fits_text, ordered, arithmetic, extreme, last, step, on_object, divide};
-ghost use Rattle.plain_formulas.specs.Told.{scene, way_of};
+ghost use Rattle.plain_lists.specs.Told.{scene, way_of};
 ghost use Rattle.plain_formulas.specs.Forms.{combined, compared, in_order, calculated, negated, joined_texts, denied, connected, chosen, counted, only, extreme_of, united, singles, turns, number_turns, truths_of, totalled, answered, quantified_over, for_source, values_in};
 
-use crate::lists::{alone, combine, compare, union_of_all};
-use crate::lookup::{Way, WorkedCell, way_from};
 use crate::parts::{
     all_joined, both, choose, connect, for_source, given, number, one, single, text, truth, turn,
 };
+use plain_lists::{Way, WorkedCell, alone, combine, compare, union_of_all, way_from};
 use sheet_columns::{
     ArithmeticOperator, Connective, Extremum, Fault, OrderTest, Place, Quantifier, SetOperator,
     SetTest,

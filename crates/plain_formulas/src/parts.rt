@@ -5,7 +5,7 @@ ghost use Rattle.sheet_meaning.specs.Formula.{one, truth, number, text, object_i
 ghost use Rattle.std.specs.List.{filter_map};
 ghost use Rattle.plain_formulas.specs.Forms.{all_joined, for_source, followed};
 
-use crate::lists::{numbers, objects, texts, truths};
+use plain_lists::{numbers, objects, texts, truths};
 use sheet_columns::{Connective, Fault, Place, Sequence};
 use sheet_meaning::{Run, Use};
 use sheet_values::{Name, NoMemory, NotOne, Value, Values};

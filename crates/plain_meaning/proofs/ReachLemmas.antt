@@ -1,9 +1,8 @@
 -- What is reached from uses, worked out from the runs of the formula cells.
-use Rattle.std.proofs.Common.{◌≡◌, refl, sym, ap, ◌∙◌, ℕ, zero, suc, ◌+◌, true, false, List, [], ◌∷◌, ◌++◌, length, arith}
+use Rattle.std.proofs.Common.{◌≡◌, refl, ap, ◌∙◌, ℕ, zero, suc, ◌+◌, true, false, List, [], ◌∷◌, ◌++◌, length, arith}
 use Rattle.std.specs.Prelude.{map, ◌==◌, ◌&&◌, if◌then◌else◌, Some}
 use Rattle.std.specs.List.{flat_map, filter_map}
 use Rattle.std.proofs.Math.Path.{fun_ext}
-use Rattle.sheet_columns.specs.declared.item.Item.{Item}
 use Rattle.sheet_columns.specs.declared.item.Item.TheVariants.{Live}
 use Rattle.sheet_meaning.specs.declared.run.Use.{Use}
 use Rattle.sheet_meaning.specs.declared.workbook.Workbook.{Workbook}
@@ -11,7 +10,7 @@ use Rattle.sheet_meaning.specs.Workbook.{FormulaCell, formula_cells}
 use Rattle.sheet_meaning.specs.Rounds.{item_in, cell_in, rounds, run_cell, settled_world}
 use Rattle.sheet_meaning.specs.Support.{Cell, with_cells, in_order, cell_at, uses_of, uses_at, cells_read, items_read, spread, reached, support}
 use Rattle.plain_meaning.specs.declared.rounds.CellRun.{CellRun}
-use Rattle.plain_meaning.specs.Tables.{cell_run, cell_runs, settled_runs}
+use Rattle.plain_meaning.specs.Tables.{cell_run, settled_runs}
 use Rattle.plain_meaning.specs.Reached.{uses_in, cells_in, items_in, spread_by, reached_by, support_by}
 use Rattle.plain_meaning.proofs.TableLemmas.{as_many}
 

@@ -1,21 +1,20 @@
 -- Tables, and what they tell.
-use Rattle.std.proofs.Common.{◌≡◌, refl, sym, ap, ◌∙◌, ℕ, zero, suc, ◌+◌, true, false, List, [], ◌∷◌, length, arith}
+use Rattle.std.proofs.Common.{◌≡◌, refl, sym, ap, ◌∙◌, ℕ, suc, ◌+◌, List, [], ◌∷◌, length, arith}
 use Rattle.std.specs.Prelude.{map, ◌==◌, ◌&&◌, if◌then◌else◌}
 use Rattle.std.proofs.Math.Path.{fun_ext}
 use Rattle.sheet_values.specs.declared.value.Value.{Value}
 use Rattle.sheet_columns.specs.declared.fault.Place.{Place}
 use Rattle.sheet_columns.specs.declared.formula.Core.{Core}
-use Rattle.sheet_meaning.specs.declared.run.Run.{Run}
 use Rattle.sheet_meaning.specs.declared.workbook.Workbook.{Workbook}
 use Rattle.sheet_meaning.specs.Run.{Outcome, none}
 use Rattle.sheet_meaning.specs.Formula.{World, Variables, run}
 use Rattle.sheet_meaning.specs.Workbook.{FormulaCell, formula_cells, world}
 use Rattle.sheet_meaning.specs.Rounds.{Table, outcome_in, world_at, table, rounds, run_cell, settled_world}
-use Rattle.plain_formulas.specs.declared.lookup.WorkedCell.{WorkedCell}
-use Rattle.plain_formulas.specs.Told.{told, scene}
-use Rattle.std.specs.Prelude.{Some, None, option_and_then}
+use Rattle.plain_lists.specs.declared.lookup.WorkedCell.{WorkedCell}
+use Rattle.plain_lists.specs.Told.{told, scene}
+use Rattle.std.specs.Prelude.{None, option_and_then}
 use Rattle.sheet_columns.specs.declared.tree.Node.{Node}
-use Rattle.sheet_columns.specs.Tree.{IsTree, above_of, root}
+use Rattle.sheet_columns.specs.Tree.{IsTree, above_of}
 use Rattle.plain_meaning.specs.declared.rounds.CellRun.{CellRun}
 use Rattle.plain_meaning.specs.Tables.{beside, cells_with, settled_cells, cell_run, cell_runs, worked, unworked}
 use Rattle.plain_meaning.proofs.Loops.{map_map}

@@ -1,6 +1,5 @@
 -- Pages, as the plain program holds them.
 use Rattle.std.specs.Prelude.{◌≡◌, ℕ, List, map, Result, Ok, Err}
-use Rattle.sheet_values.specs.declared.value.Value.{Value}
 use Rattle.sheet_columns.specs.declared.view.CoreSlot.{CoreSlot}
 use Rattle.sheet_columns.specs.declared.page.Part.{Part}
 use Rattle.sheet_columns.specs.declared.page.Part.TheVariants as part

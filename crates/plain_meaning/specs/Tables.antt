@@ -1,16 +1,13 @@
 -- Tables of outcomes beside their formula cells.
-use Rattle.std.specs.Prelude.{ℕ, ◌==◌, ◌&&◌, if◌then◌else◌, List, [], ◌∷◌, map}
-use Rattle.sheet_values.specs.declared.value.Value.{Value}
-use Rattle.sheet_meaning.specs.declared.run.Run.{Run}
-use Rattle.sheet_meaning.specs.declared.run.Use.{Use}
+use Rattle.std.specs.Prelude.{List, [], ◌∷◌, map}
 use Rattle.sheet_meaning.specs.declared.workbook.Schema.{Schema}
 use Rattle.sheet_meaning.specs.declared.workbook.LiveObject.{LiveObject}
 use Rattle.sheet_meaning.specs.declared.workbook.Workbook.{Workbook}
-use Rattle.sheet_meaning.specs.Run.{Outcome, none}
+use Rattle.sheet_meaning.specs.Run.{none}
 use Rattle.sheet_meaning.specs.Formula.{World}
 use Rattle.sheet_meaning.specs.Workbook.{FormulaCell, cells_of, formula_cells}
 use Rattle.sheet_meaning.specs.Rounds.{Table, table, rounds, run_cell, settled_world}
-use Rattle.plain_formulas.specs.declared.lookup.WorkedCell.{WorkedCell}
+use Rattle.plain_lists.specs.declared.lookup.WorkedCell.{WorkedCell}
 use Rattle.plain_meaning.specs.declared.rounds.CellRun.{CellRun}
 
 -- formula cells beside their outcomes

@@ -8,7 +8,7 @@ ghost use Rattle.sheet_meaning.specs.Support.{support_of_cell};
 ghost use Rattle.sheet_meaning.specs.Kept.{kept_with, kept_after};
 
 use crate::reaching::{Cell, reached, support, with_cells};
-use plain_formulas::{children, compare, object_at, parent, set_in};
+use plain_lists::{children, compare, object_at, parent, set_in};
 use sheet_columns::{Item, SetTest};
 use sheet_meaning::{Schema, State, Use};
 use sheet_values::NoMemory;

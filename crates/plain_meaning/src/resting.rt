@@ -2,14 +2,16 @@
 ghost use Rattle.std.specs.Prelude.{◌≡◌, ◌++◌, IfOk, OnOk};
 ghost use Rattle.std.specs.List.{flat_map};
 ghost use Rattle.sheet_meaning.specs.Statements.{workbook};
-ghost use Rattle.sheet_meaning.specs.Page.{row_uses, part_uses, argument_uses, view_support};
+ghost use Rattle.sheet_meaning.specs.Page.{row_uses, part_uses, argument_uses, view_uses, view_support, kept_by_view};
 ghost use Rattle.plain_meaning.specs.Tables.{settled_cells};
 ghost use Rattle.plain_meaning.specs.Pages.{slots_used};
 
-use crate::reaching::support;
+use crate::kept::kept_with;
+use crate::reaching::{Cell, support};
 use crate::rounds::{settled, value_of};
 use crate::showing::{bound, first_variables, slot_run};
-use plain_formulas::{WorkedCell, appended, objects};
+use plain_formulas::appended;
+use plain_lists::{WorkedCell, objects};
 use sheet_columns::{Core, CoreSlot, CoreView, Item, Items, Place, Sequence};
 use sheet_meaning::{Caller, Schema, State, Use};
 use sheet_values::{NoMemory, Value, Values};
@@ -146,6 +148,29 @@ fn push_argument_uses(
     Ok(())
 }
 
+// What a view uses: its `allow` formula, its parts, and whether the objects among the arguments are live.
+fn view_uses(
+    alloc: Global,
+    schema: &Schema,
+    state: &State,
+    allow: &Core,
+    views: &[CoreView],
+    caller: Caller,
+    arguments: &[Value],
+) -> Result<Sequence<Use>, NoMemory>
+    ensures { IfOk result (λ uses. uses ≡ view_uses (workbook schema.now state.now) allow.now views.now caller arguments.now) }
+{
+    let variables = first_variables(alloc, caller, arguments)?;
+    let cells = settled(alloc, schema, state)?;
+    let place = Place::Slot(0);
+    let (known, bound) = (cells.as_slice(), variables.as_slice());
+    let run = value_of(alloc, schema, state, known, allow, place, bound)?;
+    let mut rest = Sequence::new(alloc);
+    push_parts_uses(alloc, schema, state, known, bound, views, &mut rest)?;
+    push_argument_uses(alloc, arguments, &mut rest)?;
+    appended(run.uses, rest.as_slice())
+}
+
 /// The support of a view: the items that its page rests on, in order.
 pub fn view_support(
     alloc: Global,
@@ -158,14 +183,23 @@ pub fn view_support(
 ) -> Result<Items, NoMemory>
     ensures { IfOk result (λ items. items ≡ view_support (workbook schema.now state.now) allow.now views.now caller arguments.now) }
 {
-    let variables = first_variables(alloc, caller, arguments)?;
-    let cells = settled(alloc, schema, state)?;
-    let place = Place::Slot(0);
-    let (known, bound) = (cells.as_slice(), variables.as_slice());
-    let run = value_of(alloc, schema, state, known, allow, place, bound)?;
-    let mut rest = Sequence::new(alloc);
-    push_parts_uses(alloc, schema, state, known, bound, views, &mut rest)?;
-    push_argument_uses(alloc, arguments, &mut rest)?;
-    let uses = appended(run.uses, rest.as_slice())?;
+    let uses = view_uses(alloc, schema, state, allow, views, caller, arguments)?;
     support(alloc, schema, state, uses.as_slice())
+}
+
+/// The formula cells whose results are kept after a view: the cells that are reached from it, beside those that were kept.
+pub fn kept_by_view(
+    alloc: Global,
+    schema: &Schema,
+    state: &State,
+    allow: &Core,
+    views: &[CoreView],
+    caller: Caller,
+    arguments: &[Value],
+    kept: Vec<Cell>,
+) -> Result<Vec<Cell>, NoMemory>
+    ensures { IfOk result (λ list. list.items ≡ kept_by_view (workbook schema.now state.now) allow.now views.now caller arguments.now kept.items) }
+{
+    let uses = view_uses(alloc, schema, state, allow, views, caller, arguments)?;
+    kept_with(alloc, schema, state, uses.as_slice(), kept)
 }

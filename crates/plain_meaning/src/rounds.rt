@@ -7,10 +7,11 @@ ghost use Rattle.sheet_columns.specs.Tree.{above_of, is_number};
 ghost use Rattle.sheet_meaning.specs.Workbook.{formula_cell};
 ghost use Rattle.sheet_meaning.specs.Statements.{workbook};
 ghost use Rattle.sheet_meaning.specs.Rounds.{table, settled_run};
-ghost use Rattle.plain_formulas.specs.Told.{scene};
+ghost use Rattle.plain_lists.specs.Told.{scene};
 ghost use Rattle.plain_meaning.specs.Tables.{cells_with, settled_cells, cells_under, cell_run, cell_runs, worked, unworked};
 
-use plain_formulas::{WorkedCell, alone, work_out};
+use plain_formulas::work_out;
+use plain_lists::{WorkedCell, alone};
 use sheet_columns::{Columns, Core, Fault, Place};
 use sheet_meaning::{ColumnFormula, LiveObject, Run, Schema, State};
 use sheet_values::{NoMemory, Value, Values};

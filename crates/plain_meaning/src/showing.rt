@@ -9,7 +9,8 @@ ghost use Rattle.plain_meaning.specs.Pages.{as_row, as_part, IsPage, names_of};
 
 use crate::rounds::{settled, value_of};
 use crate::stop::Stop;
-use plain_formulas::{WorkedCell, alone, copied, truth};
+use plain_formulas::truth;
+use plain_lists::{WorkedCell, alone, copied};
 use sheet_columns::{Core, CoreSlot, CoreView, Fault, Place, Sequence};
 use sheet_meaning::{Caller, Refusal, Run, Schema, State};
 use sheet_values::{Name, NoMemory, Value, Values};

@@ -1,11 +1,11 @@
 -- The state columns under an object column, one by one.
-use Rattle.std.proofs.Common.{◌≡◌, refl, sym, ap, ◌∙◌, subst, ℕ, zero, suc, ◌+◌, ◌<◌, true, false, List, [], ◌∷◌, ◌++◌, length, drop, arith}
+use Rattle.std.proofs.Common.{◌≡◌, refl, sym, ap, ◌∙◌, ℕ, zero, suc, ◌+◌, ◌<◌, true, false, List, [], ◌∷◌, ◌++◌, length, drop, arith}
 use Rattle.std.specs.Prelude.{map, filter, not, Option, Some, None, slice_get, option_and_then, option_map, if◌then◌else◌}
 use Rattle.std.specs.List.{filter_map, cons_option, enumerate_from}
 use Rattle.std.specs.Option.{option_to_list}
 use Rattle.std.proofs.lemmas.List.{append_assoc}
 use Rattle.sheet_columns.specs.declared.tree.Node.{Node}
-use Rattle.sheet_columns.specs.Tree.{column_of, above_of, is_number}
+use Rattle.sheet_columns.specs.Tree.{is_number}
 use Rattle.sheet_meaning.specs.WellFormed as meant
 use Rattle.plain_procedures.specs.declared.changes.StateColumn.{StateColumn}
 use Rattle.sheet_meaning.specs.Changes.{has_number, family, without, without_object}
@@ -13,7 +13,7 @@ use Rattle.sheet_meaning.specs.declared.workbook.Schema.{Schema}
 use Rattle.sheet_meaning.specs.declared.workbook.State.{State}
 use Rattle.sheet_meaning.specs.declared.workbook.LiveObject.{LiveObject}
 use Rattle.sheet_meaning.specs.declared.workbook.StoredCell.{StoredCell}
-use Rattle.plain_procedures.specs.Columns.{brief, column_at, columns_under, new_cell, cells_left, made_with}
+use Rattle.plain_procedures.specs.Columns.{brief, column_at, columns_under, new_cell, cells_left, made_with, started}
 use Rattle.plain_meaning.proofs.Loops.{map_map}
 
 abbrev pub state_column : ℕ → ℕ × Node → Option meant.StateColumn
@@ -60,6 +60,19 @@ object_made schema s c parent next objects copy all cells old stored under colum
     ∙ ap (λ l. l ++ map (new_cell s.next) under) (os ∙ sc)
     ∙ ap (λ l. s.cells ++ map (new_cell s.next) l) (same ∙ these)
     ∙ ap (λ l. s.cells ++ l) (map_map (new_cell s.next) brief (meant.state_columns schema c)))
+
+abbrev the_root : LiveObject
+the_root = record { number = 0; column = 0; parent = None }
+
+-- the state at the start
+pub root_alone : (schema : Schema) (objects none : List LiveObject) (cells empty : List StoredCell) (under columns : List StateColumn) → under ≡ columns → columns ≡ columns_under schema.columns 0 → empty ≡ [] → cells ≡ empty ++ map (new_cell 0) under → none ≡ [] → objects ≡ none ++ the_root ∷ [] → record { objects = objects; cells = cells; next = 1 } ≡ started schema
+root_alone schema objects none cells empty under columns same these no_cells made no_objects new =
+    ap (λ (l : List LiveObject). let t : State = record { objects = l; cells = cells; next = 1 } in t) (new ∙ ap (λ (l : List LiveObject). l ++ the_root ∷ []) no_objects)
+    ∙ ap (λ (l : List StoredCell). let t : State = record { objects = the_root ∷ []; cells = l; next = 1 } in t)
+    (made
+    ∙ ap (λ l. l ++ map (new_cell 0) under) no_cells
+    ∙ ap (map (new_cell 0)) (same ∙ these)
+    ∙ map_map (new_cell 0) brief (meant.state_columns schema 0))
 
 -- a state without an object and those below it
 pub object_gone : (s : State) (o : ℕ) (ns gone : List ℕ) (objects all : List LiveObject) (cells stored : List StoredCell) → ns ≡ gone → all ≡ s.objects → gone ≡ family all o → objects ≡ filter (λ x. not (has_number ns x.number)) all → stored ≡ s.cells → cells ≡ cells_left ns stored → record { objects = objects; cells = cells; next = s.next } ≡ without_object s o

@@ -1,9 +1,8 @@
 -- What is counted is what the definitions count.
 use Rattle.std.proofs.Common.{◌≡◌, refl, sym, ap, ◌∙◌, ℕ, ◌+◌, true, false, List, [], ◌∷◌, length}
-use Rattle.std.specs.Prelude.{map, filter, find, not, ◌==◌, Option, cond}
+use Rattle.std.specs.Prelude.{map, filter, find, not, ◌==◌, cond}
 use Rattle.std.specs.List.{flat_map}
 use Rattle.std.proofs.Math.Path.{fun_ext}
-use Rattle.sheet_meaning.specs.declared.workbook.Schema.{Schema}
 use Rattle.sheet_meaning.specs.declared.workbook.LiveObject.{LiveObject}
 use Rattle.sheet_meaning.specs.declared.workbook.Workbook.{Workbook}
 use Rattle.sheet_meaning.specs.Workbook.{set_in}

@@ -1,5 +1,5 @@
 -- State columns and state cells, as the plain program holds them.
-use Rattle.std.specs.Prelude.{ℕ, ◌==◌, ◌&&◌, not, if◌then◌else◌, List, [], map, filter, Option, Some, None, option_and_then}
+use Rattle.std.specs.Prelude.{ℕ, ◌==◌, ◌&&◌, not, if◌then◌else◌, List, [], ◌∷◌, map, filter, None, option_and_then}
 use Rattle.std.specs.List.{filter_map, enumerate_from}
 use Rattle.std.specs.Option.{option_to_list}
 use Rattle.sheet_values.specs.declared.value.Value.{Value}
@@ -42,3 +42,11 @@ cells_left ns cells =
 -- the state with a new object, and with the next number that is given
 abbrev pub made_with : Schema → State → ℕ → ℕ → ℕ → State
 made_with schema s c parent next = record (with_object schema s c parent) { next = next }
+
+-- the state at the start: the root alone, with the first values of its state cells
+abbrev pub started : Schema → State
+started s = record {
+  objects = record { number = 0; column = 0; parent = None } ∷ [];
+  cells = map (λ (k : meant.StateColumn). record { object = 0; column = k.number; set = first_set k.first }) (meant.state_columns s 0);
+  next = 1;
+}

@@ -1,9 +1,9 @@
 // The changes that statements make.
 ghost use Rattle.std.specs.Prelude.{◌≡◌, ◌++◌, ◌<◌, not, IfOk, OnOk, map, filter, length};
 ghost use Rattle.sheet_meaning.specs.Changes.{changed_set, with_set, first_set, has_number, has_parent_in, family, is_other, without_object};
-ghost use Rattle.plain_procedures.specs.Columns.{column_at, columns_under, new_cell, cell_with, cells_left, made_with};
+ghost use Rattle.plain_procedures.specs.Columns.{column_at, columns_under, new_cell, cell_with, cells_left, made_with, started};
 
-use plain_formulas::{alone, combine, copied};
+use plain_lists::{alone, combine, copied};
 use plain_meaning::{column_above, is_column};
 use sheet_columns::{Change, Column, Columns, Sequence, SetOperator};
 use sheet_meaning::{LiveObject, Schema, State, StoredCell};
@@ -199,6 +199,36 @@ fn copied_cells(alloc: Global, cells: &[StoredCell]) -> Result<Sequence<StoredCe
         rest = more;
     }
     Ok(list)
+}
+
+/// The state at the start: the root alone, with the first values of its state cells.
+pub fn started(alloc: Global, schema: &Schema) -> Result<State, NoMemory>
+    ensures { IfOk result (λ state. state ≡ started schema.now) }
+{
+    let columns = state_columns(alloc, &schema.columns, 0)?;
+    let cells = push_new_cells(alloc, Sequence::new(alloc), 0, columns.as_slice())?;
+    let mut objects = Sequence::new(alloc);
+    objects.push(LiveObject {
+        number: 0,
+        column: 0,
+        parent: None,
+    })?;
+    Ok(State {
+        objects,
+        cells,
+        next: 1,
+    })
+}
+
+/// The same state.
+pub fn copied_state(alloc: Global, state: &State) -> Result<State, NoMemory>
+    ensures { IfOk result (λ copy. copy ≡ state.now) }
+{
+    Ok(State {
+        objects: copied_objects(alloc, state.objects.as_slice())?,
+        cells: copied_cells(alloc, state.cells.as_slice())?,
+        next: state.next,
+    })
 }
 
 /// The state with a new object of a column, under an object, and with the next number that is given.

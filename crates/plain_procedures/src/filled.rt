@@ -7,7 +7,7 @@ ghost use Rattle.sheet_meaning.specs.Statements.{workbook};
 ghost use Rattle.plain_procedures.specs.Counts.{pairs_of, one_pairs_of, all_pairs, one_pairs};
 
 use crate::changes::{StateColumn, state_columns};
-use plain_formulas::set_in;
+use plain_lists::set_in;
 use plain_meaning::{Cell, run_cells};
 use sheet_meaning::{LiveObject, Schema, State, StoredCell};
 use sheet_values::NoMemory;

@@ -5,7 +5,8 @@ ghost use Rattle.plain_procedures.specs.Points.{as_point, stored_in, Ends, GoesO
 
 use crate::changes::{changed_set, with_object, with_set, without_object};
 use crate::filled::{cell_count, stored_values};
-use plain_formulas::{alone, object, object_at, set_in};
+use plain_formulas::object;
+use plain_lists::{alone, object_at, set_in};
 use plain_meaning::{Cell, Stop, kept_after, kept_with, settled, value_of};
 use sheet_columns::{Change, Core, Place, Target};
 use sheet_meaning::{Refusal, Run, Schema, State, Which};

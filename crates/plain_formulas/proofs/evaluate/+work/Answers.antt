@@ -1,6 +1,6 @@
 use Rattle.std.proofs.Common.{ap, ◌∙◌}
 use Rattle.std.specs.Prelude.{map}
-use Rattle.plain_formulas.specs.Told.{scene}
+use Rattle.plain_lists.specs.Told.{scene}
 use Rattle.sheet_columns.specs.declared.formula.Core.{ObjectStep, StateStep, FormulaStep, Up, Combine, Compare, Order, Arithmetic, Negate, Join, Not, Connect, Count, Only, Extreme}
 use Rattle.sheet_meaning.specs.Run.{and_then}
 use Rattle.sheet_meaning.specs.Formula.{run, bind, step, extent_of, stored_of, worked_of, parent_of}

@@ -2,7 +2,7 @@ use Rattle.std.proofs.Common.{◌≡◌, ◌+◌, ◌*◌, take}
 use Rattle.std.specs.Prelude.{max, map}
 use Rattle.sheet_columns.specs.declared.formula.Core.{size-Core}
 use Rattle.sheet_meaning.specs.Formula.{run, bind}
-use Rattle.plain_formulas.specs.Told.{scene}
+use Rattle.plain_lists.specs.Told.{scene}
 use Rattle.plain_formulas.proofs.evaluate.+work.Given as goal
 
 abbrev pub decreases-work_out : goal.decreases-work_out

@@ -1,6 +1,6 @@
 use Rattle.std.proofs.Common.{true, false}
 use Rattle.std.specs.Prelude.{◌||◌, ◌&&◌}
-use Rattle.plain_formulas.proofs.Steps.{one_folded}
+use Rattle.plain_lists.proofs.Steps.{one_folded}
 use Rattle.plain_formulas.proofs.forms.answered.Goals as goal
 
 pub loop-truth-preserved : goal.loop-truth-preserved

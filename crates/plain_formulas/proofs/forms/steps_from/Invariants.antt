@@ -1,7 +1,7 @@
 use Rattle.std.proofs.Common.{◌≡◌, take}
 use Rattle.std.specs.Prelude.{map}
 use Rattle.sheet_meaning.specs.Formula.{on_object}
-use Rattle.plain_formulas.specs.Told.{scene, way_of}
+use Rattle.plain_lists.specs.Told.{scene, way_of}
 use Rattle.plain_formulas.proofs.forms.steps_from.Given as goal
 
 abbrev pub invariant-loop-value : goal.invariant-loop-value

@@ -1,8 +1,8 @@
 use Rattle.std.proofs.Common.{arith, ◌≡◌, ◌∙◌, to_z, of_z}
-use Rattle.std.specs.Prelude.{pos, ◌+ℤ◌, ◌≤ℤ◌}
+use Rattle.std.specs.Prelude.{pos, ◌+ℤ◌}
 use mir.Syntax.{w128}
 use Rattle.std.proofs.lemmas.Int.{ints}
-use Rattle.plain_formulas.proofs.Steps.{one_folded}
+use Rattle.plain_lists.proofs.Steps.{one_folded}
 use Rattle.plain_formulas.proofs.forms.total.Goals as goal
 
 pub loop-number-preserved : goal.loop-number-preserved

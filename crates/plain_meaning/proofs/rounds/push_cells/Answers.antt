@@ -2,7 +2,7 @@ use Rattle.std.proofs.Common.{ap, ◌∙◌, ◌++◌}
 use Rattle.std.specs.Prelude.{map}
 use Rattle.std.specs.List.{filter_map}
 use Rattle.sheet_meaning.specs.Workbook.{formula_cell}
-use Rattle.plain_formulas.specs.Told.{scene}
+use Rattle.plain_lists.specs.Told.{scene}
 use Rattle.plain_meaning.specs.Tables.{cell_run}
 use Rattle.plain_meaning.proofs.Loops.{one_joined, picked_parts, one_picked}
 use Rattle.plain_meaning.proofs.rounds.push_cells.Goals as goal

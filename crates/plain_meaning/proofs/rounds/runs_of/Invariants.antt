@@ -1,7 +1,7 @@
 use Rattle.std.proofs.Common.{◌≡◌, ◌++◌, length}
 use Rattle.std.specs.Prelude.{map}
 use Rattle.std.specs.List.{flat_map}
-use Rattle.plain_formulas.specs.Told.{scene}
+use Rattle.plain_lists.specs.Told.{scene}
 use Rattle.plain_meaning.specs.Tables.{cells_under, cell_run}
 use Rattle.plain_meaning.proofs.rounds.runs_of.Given as goal
 

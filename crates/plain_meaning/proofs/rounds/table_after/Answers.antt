@@ -1,5 +1,5 @@
 use Rattle.std.proofs.Common.{ap, ◌∙◌}
-use Rattle.plain_formulas.specs.Told.{scene}
+use Rattle.plain_lists.specs.Told.{scene}
 use Rattle.plain_meaning.specs.Tables.{cell_runs}
 use Rattle.plain_meaning.proofs.TableLemmas.{first_cells, more_cells}
 use Rattle.sheet_meaning.specs.Statements.{workbook}

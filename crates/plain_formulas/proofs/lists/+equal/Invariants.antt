@@ -1,5 +1,0 @@
-use Rattle.std.proofs.Common.{length}
-use Rattle.plain_formulas.proofs.lists.+equal.Given as goal
-
-abbrev pub decreases-equal : goal.decreases-equal
-decreases-equal l = length l.left.now

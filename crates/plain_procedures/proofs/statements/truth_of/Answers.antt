@@ -1,0 +1,11 @@
+use Rattle.std.proofs.Common.{subst, ap, ◌∙◌}
+use Rattle.sheet_columns.specs.declared.fault.Place.TheVariants as place
+use Rattle.sheet_meaning.specs.Formula.{truth}
+use Rattle.plain_procedures.specs.Points.{as_point, GoesOn}
+use Rattle.plain_procedures.proofs.statements.truth_of.Goals as goal
+
+pub returns : goal.returns
+returns c =
+    subst (λ r. GoesOn c.args.schema.now r (as_point c.args.point) c.go_on.result)
+    (c.in_ok-truth.ensures ∙ ap (truth (place.Statement c.args.number)) c.in_ok-run.ensures)
+    c.go_on.ensures
