@@ -17,5 +17,10 @@ pub mod Gone
 pub mod Rid
 pub mod Told
 pub mod Searching
+pub mod Adding
+pub mod Underneath
+pub mod Relatives
+pub mod Covering
+pub mod Listed
 pub mod Compacting
 pub mod Schemas

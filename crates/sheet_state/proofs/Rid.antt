@@ -18,11 +18,11 @@ use Rattle.sheet_meaning.specs.WellFormed.{cell_count, IsWellFormed}
 use Rattle.sheet_meaning.specs.declared.workbook.LiveObject.{LiveObject}
 use Rattle.sheet_meaning.specs.declared.workbook.StoredCell.{StoredCell}
 use Rattle.sheet_meaning.specs.declared.workbook.State.{State}
-use Rattle.sheet_state.specs.Deaths.{doomed_in, is_doomed, buried, swept, lost_cells, rid_of}
+use Rattle.sheet_state.specs.Deaths.{is_doomed, buried, swept, lost_cells, rid_of}
 use Rattle.sheet_state.specs.Kept.{book, object_columns, extents_of, IsMoment}
 use Rattle.sheet_state.specs.Rows.{objects_in, cells_in, state_of, moment, row_cmp, object_cmp, IsSound}
 use Rattle.sheet_state.proofs.Existing.{key}
-use Rattle.sheet_state.proofs.Family.{Knows, doomed_known}
+use Rattle.sheet_state.proofs.Family.{Knows}
 use Rattle.sheet_state.proofs.Without.{stays, children_left, pairs_left, weight_of, cells_weighed, left_well_formed, family_closed, keys_left}
 use Rattle.sheet_state.proofs.Gone.{objects_left, cells_left, set_left, orphans, weighed_apart, values_apart}
 use Rattle.sheet_state.proofs.WithSet.{all_mono}
@@ -64,15 +64,9 @@ ones : (xs : List LiveObject) → sum_by (λ (x : LiveObject). 1) xs ≡ length 
 ones [] = refl
 ones (x ∷ xs) = let a = sum_by-cons (λ (y : LiveObject). 1) x xs in let b = ones xs in omega arith
 
-module _ (nodes : List Node) (t : Table) (sound : IsSound t) (m : IsMoment nodes (moment t)) (o : ℕ) (positive : 0 < o) where
-  abbrev d : List Value
-  d = doomed_in t.objects o
-
+module _ (nodes : List Node) (t : Table) (sound : IsSound t) (m : IsMoment nodes (moment t)) (o : ℕ) (positive : 0 < o) (d : List Value) (k : Knows d (family (objects_in t.objects) o)) where
   abbrev ns : List ℕ
   ns = family (objects_in t.objects) o
-
-  abbrev k : Knows d ns
-  k = doomed_known t.objects o
 
   abbrev after : Table
   after = rid_of nodes d t

@@ -25,10 +25,10 @@ use Rattle.sheet_meaning.specs.declared.workbook.LiveObject.{LiveObject}
 use Rattle.sheet_meaning.specs.declared.workbook.StoredCell.{StoredCell}
 use Rattle.sheet_meaning.specs.declared.workbook.State.{State}
 use Rattle.sheet_state.specs.Births.{with_items}
-use Rattle.sheet_state.specs.Deaths.{doomed_in, is_doomed, buried_items, up_items, swept, swept_items, lost, rid_items}
+use Rattle.sheet_state.specs.Deaths.{is_doomed, buried_items, up_items, swept, swept_items, lost, rid_items}
 use Rattle.sheet_state.specs.Kept.{IsMoment, AreChanged}
 use Rattle.sheet_state.specs.Rows.{live_object, live_cell, object_cmp, object_of, objects_in, cells_in, state_of, moment, row_cmp, is_set, IsSound}
-use Rattle.sheet_state.proofs.Family.{Knows, knows_number, doomed_known}
+use Rattle.sheet_state.proofs.Family.{Knows, knows_number}
 use Rattle.sheet_state.proofs.Lookups.{set_first, set_skip}
 use Rattle.sheet_state.proofs.Newborn.{has_items}
 use Rattle.sheet_state.proofs.SetRows.{at, apart, passes, key_is}
@@ -301,15 +301,9 @@ extents_apart a b x y h = let one : a ≡ x = cc in let two : b ≡ y = cc in (o
 cells_apart : (a b x y : ℕ) → Stored a b ≡ Stored x y → (a ≡ x) × (b ≡ y)
 cells_apart a b x y h = let one : a ≡ x = cc in let two : b ≡ y = cc in (one, two)
 
-module _ (nodes : List Node) (t : Table) (sound : IsSound t) (w : IsMoment nodes (moment t)) (o : ℕ) (positive : 0 < o) where
-  abbrev d : List Value
-  d = doomed_in t.objects o
-
+module _ (nodes : List Node) (t : Table) (sound : IsSound t) (w : IsMoment nodes (moment t)) (o : ℕ) (positive : 0 < o) (d : List Value) (k : Knows d (family (objects_in t.objects) o)) where
   abbrev ns : List ℕ
   ns = family (objects_in t.objects) o
-
-  abbrev k : Knows d ns
-  k = doomed_known t.objects o
 
   abbrev s' : State
   s' = without_object (state_of t) o
@@ -360,11 +354,11 @@ module _ (nodes : List Node) (t : Table) (sound : IsSound t) (w : IsMoment nodes
       ∙ or_false (among (Extent m c) (flat_map (swept_items Extent d) t.extents))
       ∙ sets_told Extent extents_apart d m c t.extents sound.extents
       ∙ ap (λ l. not (sets_equal l (set_in (cells_in (map (swept d) t.extents)) m c))) (sound.children m c)
-      ∙ ap (λ l. not (sets_equal (children_in (objects_in t.objects) m c) l)) (children_rid nodes t sound w o positive m c ∙ ap (λ (u : State). children_in u.objects m c) (state_rid nodes t sound w o positive))
+      ∙ ap (λ l. not (sets_equal (children_in (objects_in t.objects) m c) l)) (children_rid nodes t sound w o positive d k m c ∙ ap (λ (u : State). children_in u.objects m c) (state_rid nodes t sound w o positive d k))
   rid_changed (Stored m c) =
       has (Stored m c)
       ∙ ap (λ b. told_by b (among (Stored m c) (flat_map (swept_items Stored d) t.cells)) (among (Stored m c) (flat_map (buried_items d) t.objects))) (no_sets (Stored m c) Extent (λ a b h. cc) t.extents)
       ∙ ap (λ b. told_by false (among (Stored m c) (flat_map (swept_items Stored d) t.cells)) b) (no_objects (Stored m c) (λ n h. cc) (λ n h. cc))
       ∙ ap (λ b. false || b) (or_false (among (Stored m c) (flat_map (swept_items Stored d) t.cells)))
       ∙ sets_told Stored cells_apart d m c t.cells sound.cells
-      ∙ ap (λ (u : State). not (sets_equal (set_in (cells_in t.cells) m c) (set_in u.cells m c))) (state_rid nodes t sound w o positive)
+      ∙ ap (λ (u : State). not (sets_equal (set_in (cells_in t.cells) m c) (set_in u.cells m c))) (state_rid nodes t sound w o positive d k)

@@ -41,7 +41,7 @@ pub differs : (a b : ℕ) → (a ≡ b → ⊥) → (a == b) ≡ false
 differs a b ne = elim (a == b) as (λ t. (a == b) ≡ t → t ≡ false) [ true ↦ λ e. absurd (ne (eqb-true a b e)) | false ↦ λ e. refl ] refl
 
 -- a step changes nothing for other numbers
-step_other : (o : ℕ) (ns : List ℕ) (x : LiveObject) (m : ℕ) → (x.number ≡ m → ⊥) → has_number (step o ns x) m ≡ has_number ns m
+pub step_other : (o : ℕ) (ns : List ℕ) (x : LiveObject) (m : ℕ) → (x.number ≡ m → ⊥) → has_number (step o ns x) m ≡ has_number ns m
 step_other o ns x m ne =
     elim (x.number == o || has_parent_in ns x.parent) as (λ b. has_number (if b then ns ++ x.number ∷ [] else ns) m ≡ has_number ns m) [
       | true ↦ has_more ns x.number m ∙ ap (λ b. b || has_number ns m) (differs x.number m ne)

@@ -1,7 +1,7 @@
 -- The rows after objects are gone.
-use Rattle.std.specs.Prelude.{ℕ, ◌+◌, ◌-◌, ◌==◌, ◌&&◌, ◌||◌, nat_lt, slice_index_or, Bool, false, if◌then◌else◌, List, [], ◌∷◌, map, fold, length, sum_by, Option, Some, None}
+use Rattle.std.specs.Prelude.{ℕ, ◌+◌, ◌-◌, ◌&&◌, nat_lt, slice_index_or, Bool, false, if◌then◌else◌, List, [], ◌∷◌, map, length, sum_by, Option, Some, None}
 use Rattle.std.specs.List.{flat_map}
-use Rattle.sheet_values.specs.Sets.{contains, insert, minus}
+use Rattle.sheet_values.specs.Sets.{contains, minus}
 use Rattle.sheet_values.specs.declared.value.Value.{Value}
 use Rattle.sheet_values.specs.declared.value.Value.TheVariants.{Object}
 use Rattle.sheet_columns.specs.declared.item.Item.{Item}
@@ -14,19 +14,6 @@ use Rattle.sheet_objects.specs.declared.row.SetRow.{SetRow}
 use Rattle.sheet_meaning.specs.WellFormed.{state_columns}
 use Rattle.sheet_state.specs.Births.{with_items, formula_columns}
 use Rattle.sheet_state.specs.Kept.{schema_of}
-
--- whether a parent is one of these objects
-abbrev pub is_under : List Value → Option ℕ → Bool
-is_under d None = false
-is_under d (Some p) = contains (Object p) d
-
--- with the object of a row, where it is this object or stands under one of these
-abbrev pub doomed_with : ℕ → List Value → ObjectRow → List Value
-doomed_with o d r = if r.live && (r.number == o || is_under d r.parent) then insert (Object r.number) d else d
-
--- an object and all below it, among rows in which parents come first
-abbrev pub doomed_in : List ObjectRow → ℕ → List Value
-doomed_in rows o = fold (doomed_with o) [] rows
 
 -- whether a row is that of a live object among these
 abbrev pub is_doomed : List Value → ObjectRow → Bool

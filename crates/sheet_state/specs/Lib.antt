@@ -1,6 +1,7 @@
 pub mod Kept
 pub mod Limits
 pub mod Rows
+pub mod Places
 pub mod Births
 pub mod Deaths
 pub mod Schemas

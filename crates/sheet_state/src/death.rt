@@ -5,35 +5,16 @@ ghost use Rattle.sheet_values.specs.Sets.{minus};
 ghost use Rattle.sheet_columns.specs.declared.item.Item.TheVariants.{Extent, Stored};
 ghost use Rattle.sheet_objects.specs.Rows.{with_objects, with_cells, with_extents};
 ghost use Rattle.sheet_state.specs.Births.{with_items};
-ghost use Rattle.sheet_state.specs.Deaths.{is_under, doomed_in, object_row, set_row, buried, swept, lost, buried_items, swept_items, lost_cells, lost_objects, rid_of, rid_items};
+ghost use Rattle.sheet_state.specs.Places.{Covers};
+ghost use Rattle.sheet_state.specs.Deaths.{object_row, set_row, buried, swept, lost, buried_items, swept_items, lost_cells, lost_objects, rid_of, rid_items};
 
 use crate::birth::weight_of;
+use crate::places::Places;
 use sheet_columns::{Columns, Item, Items};
 use sheet_objects::{Counters, ObjectRow, SetRow, Tables};
 use sheet_values::{NoMemory, Set, Value};
 use std::alloc::Global;
-
-/// An object and all below it.
-pub fn family_of(alloc: Global, rows: &[ObjectRow], object: u64) -> Result<Set, NoMemory>
-    ensures { IfOk result (λ doomed. doomed ≡ doomed_in rows.now object) }
-{
-    let mut doomed = Set::empty(alloc);
-    for row in rows {
-        if row.live && (row.number == object || stands_under(row.parent, &doomed)) {
-            doomed.insert(Value::Object(row.number))?;
-        }
-    }
-    Ok(doomed)
-}
-
-fn stands_under(parent: Option<u64>, doomed: &Set) -> bool
-    ensures { result ≡ is_under doomed.now parent }
-{
-    match parent {
-        Some(parent) => doomed.contains(&Value::Object(parent)),
-        None => false,
-    }
-}
+use std::collections::BTreeSet;
 
 /// Takes these objects out of all rows; the items that this changes.
 pub fn be_rid_of(
@@ -41,16 +22,34 @@ pub fn be_rid_of(
     tables: &mut Tables,
     columns: &Columns,
     doomed: &Set,
+    places: &mut Places,
 ) -> Result<Items, NoMemory>
+    requires objects { Covers (buried doomed.now) tables.old.present.objects places.old.objects.keys }
+    requires cells { Covers (swept doomed.now) tables.old.present.cells places.old.cells.keys }
+    requires extents { Covers (swept doomed.now) tables.old.present.extents places.old.extents.keys }
     ensures present { OnOk result (tables.new.present ≡ rid_of columns.now doomed.now tables.old.present) }
     ensures items { IfOk result (λ items. items ≡ rid_items doomed.now tables.old.present) }
     ensures earlier { tables.new.earlier ≡ tables.old.earlier }
 {
     let counters = tables.counters();
     let mut items = Items::new(alloc);
-    let (objects, cells) = bury_all(tables, columns, doomed, &mut items, counters)?;
-    let values = sweep_cells(alloc, tables, doomed, &mut items, counters.values)?;
-    sweep_extents(alloc, tables, doomed, &mut items)?;
+    let (objects, cells) = bury_all(
+        tables,
+        columns,
+        doomed,
+        &mut places.objects,
+        &mut items,
+        counters,
+    )?;
+    let values = sweep_cells(
+        alloc,
+        tables,
+        doomed,
+        &mut places.cells,
+        &mut items,
+        counters.values,
+    )?;
+    sweep_extents(alloc, tables, doomed, &mut places.extents, &mut items)?;
     tables.count(Counters {
         next: counters.next,
         objects,
@@ -65,9 +64,11 @@ fn bury_all(
     tables: &mut Tables,
     columns: &Columns,
     doomed: &Set,
+    places: &mut BTreeSet<usize>,
     items: &mut Items,
     counters: Counters,
 ) -> Result<(u64, u64), NoMemory>
+    requires { Covers (buried doomed.now) tables.old.present.objects places.old.keys }
     ensures present { OnOk result (tables.new.present ≡ with_objects tables.old.present (map (buried doomed.now) tables.old.present.objects)) }
     ensures items { OnOk result (items.new ≡ with_items items.old (flat_map (buried_items doomed.now) tables.old.present.objects)) }
     ensures objects { IfOk result (λ left. left.0 ≡ counters.objects - sum_by (lost_objects doomed.now) tables.old.present.objects) }
@@ -76,7 +77,7 @@ fn bury_all(
 {
     let mut objects = counters.objects;
     let mut cells = counters.cells;
-    for place in 0..tables.objects().len() {
+    while let Some(place) = places.pop_first() {
         let gone = bury(tables, columns, doomed, items, place)?;
         objects = objects.saturating_sub(gone.0);
         cells = cells.saturating_sub(gone.1);
@@ -117,16 +118,18 @@ fn sweep_cells(
     alloc: Global,
     tables: &mut Tables,
     doomed: &Set,
+    places: &mut BTreeSet<usize>,
     items: &mut Items,
     values: u64,
 ) -> Result<u64, NoMemory>
+    requires { Covers (swept doomed.now) tables.old.present.cells places.old.keys }
     ensures present { OnOk result (tables.new.present ≡ with_cells tables.old.present (map (swept doomed.now) tables.old.present.cells)) }
     ensures items { OnOk result (items.new ≡ with_items items.old (flat_map (swept_items Stored doomed.now) tables.old.present.cells)) }
     ensures values { IfOk result (λ left. left ≡ values - sum_by (lost doomed.now) tables.old.present.cells) }
     ensures earlier { tables.new.earlier ≡ tables.old.earlier }
 {
     let mut left = values;
-    for place in 0..tables.cells().len() {
+    while let Some(place) = places.pop_first() {
         let gone = sweep_cell(alloc, tables, doomed, items, place)?;
         left = left.saturating_sub(gone);
     }
@@ -168,13 +171,15 @@ fn sweep_extents(
     alloc: Global,
     tables: &mut Tables,
     doomed: &Set,
+    places: &mut BTreeSet<usize>,
     items: &mut Items,
 ) -> Result<(), NoMemory>
+    requires { Covers (swept doomed.now) tables.old.present.extents places.old.keys }
     ensures present { OnOk result (tables.new.present ≡ with_extents tables.old.present (map (swept doomed.now) tables.old.present.extents)) }
     ensures items { OnOk result (items.new ≡ with_items items.old (flat_map (swept_items Extent doomed.now) tables.old.present.extents)) }
     ensures earlier { tables.new.earlier ≡ tables.old.earlier }
 {
-    for place in 0..tables.extents().len() {
+    while let Some(place) = places.pop_first() {
         sweep_extent(alloc, tables, doomed, items, place)?;
     }
     Ok(())

@@ -6,6 +6,7 @@ ghost use Rattle.sheet_state.specs.Schemas.{FormulasDontMatter, WorldsTellItems}
 mod birth;
 mod death;
 mod lookup;
+mod places;
 mod refusal;
 mod state;
 

@@ -10,18 +10,22 @@ ghost use Rattle.sheet_meaning.specs.Changes.{with_set, with_object, without_obj
 ghost use Rattle.sheet_meaning.specs.Workbook.{object_at, column_in, parent_in, children_in, set_in};
 ghost use Rattle.sheet_meaning.specs.WellFormed.{HoldsKind};
 ghost use Rattle.sheet_state.specs.Births.{born, born_items, live_row, set_at};
-ghost use Rattle.sheet_state.specs.Deaths.{rid_of, rid_items};
+ghost use Rattle.sheet_state.specs.Deaths.{buried, swept, rid_of, rid_items};
 ghost use Rattle.sheet_state.specs.Kept.{IsKept, AreChanged, schema_of, book, start};
-ghost use Rattle.sheet_state.specs.Rows.{object_of, objects_in, cells_in, object_cmp, row_cmp};
+ghost use Rattle.sheet_state.specs.Places.{Covers, IsListed};
+ghost use Rattle.sheet_references.specs.declared.references.Reference.{Reference};
+ghost use Rattle.sheet_state.specs.Rows.{IsSound, moment, object_of, objects_in, cells_in, object_cmp, row_cmp};
 ghost use Rattle.sheet_state.specs.Limits.{full_of, first_full, Refuses};
 
 use crate::StateRefusal;
 use crate::birth::{add_rows, weight_of};
-use crate::death::{be_rid_of, family_of};
+use crate::death::be_rid_of;
 use crate::lookup::{object_place, set_place};
+use crate::places::{Places, places_of};
 use sheet_columns::{Columns, Item, Items};
 use sheet_meaning::Which;
 use sheet_objects::{Counters, ObjectRow, SetRow, Tables};
+use sheet_references::{References, family_of};
 use sheet_values::{NoMemory, Set};
 use std::alloc::Global;
 use std::marker::Model;
@@ -44,6 +48,7 @@ pub struct Mark {
 #[derive(Debug, Drop)]
 pub struct State {
     tables: Tables,
+    references: References,
     nothing: Set,
     alloc: Global,
 }
@@ -52,13 +57,14 @@ impl Model for State {
     ghost use Rattle.std.specs.Prelude.{◌≡◌, [], map};
     ghost use Rattle.std.specs.List.{AllByRecursion};
     ghost use Rattle.sheet_state.specs.Kept.{Kept};
+    ghost use Rattle.sheet_state.specs.Places.{IsListed};
     ghost use Rattle.sheet_state.specs.Rows.{moment, IsSound};
 
     ghost Value = { Kept };
 
     ghost view = { λ s. record { present = moment s.tables.present; earlier = map moment s.tables.earlier } };
 
-    ghost invariant = { λ s. IsSound s.tables.present × AllByRecursion IsSound s.tables.earlier × (s.nothing ≡ []) };
+    ghost invariant = { λ s. IsSound s.tables.present × AllByRecursion IsSound s.tables.earlier × (s.nothing ≡ []) × IsListed s.references s.tables.present × AllByRecursion (IsListed s.references) s.tables.earlier };
 }
 
 impl State {
@@ -87,6 +93,7 @@ impl State {
         tables.forget();
         Ok(State {
             tables,
+            references: References::new(alloc),
             nothing: Set::empty(alloc),
             alloc,
         })
@@ -124,6 +131,7 @@ impl State {
         }
         let values = others + set.len() as u64;
         let items = changed_item(self.alloc, old, &set, object, column)?;
+        self.references.note_all(&set, object, column)?;
         let row = SetRow {
             object,
             column,
@@ -198,8 +206,9 @@ impl State {
         ensures unchanged { OnErr result (self.new ≡ self.old) }
         ensures kept { IsKept columns.now self.new }
     {
-        let doomed = family_of(self.alloc, self.tables.objects(), object)?;
-        let items = take_away(self.alloc, &mut self.tables, columns, &doomed)?;
+        let doomed = family_of(self.alloc, self.tables.extents(), object)?;
+        let mut places = places_of(self.alloc, &self.tables, &self.references, object, &doomed)?;
+        let items = take_away(self.alloc, &mut self.tables, columns, &doomed, &mut places)?;
         Ok(items)
     }
 
@@ -229,12 +238,8 @@ impl State {
         ensures earlier { self.new.earlier ≡ [] }
         ensures kept { (nodes : List Node) → IsKept nodes self.old → IsKept nodes self.new }
     {
-        let rows = self.tables.objects().len() as u64;
-        if rows / 2 > self.tables.counters().objects {
-            self.tables.compact();
-        } else {
-            self.tables.forget();
-        }
+        settle(&mut self.tables);
+        purge(&mut self.references, &self.tables);
     }
 
     /// What a state cell holds: nothing where the object isn't live or has no such cell. It takes no memory.
@@ -441,7 +446,11 @@ fn take_away(
     tables: &mut Tables,
     columns: &Columns,
     doomed: &Set,
+    places: &mut Places,
 ) -> Result<Items, NoMemory>
+    requires objects { Covers (buried doomed.now) tables.old.present.objects places.old.objects.keys }
+    requires cells { Covers (swept doomed.now) tables.old.present.cells places.old.cells.keys }
+    requires extents { Covers (swept doomed.now) tables.old.present.extents places.old.extents.keys }
     ensures present { OnOk result (tables.new.present ≡ rid_of columns.now doomed.now tables.old.present) }
     ensures items { IfOk result (λ items. items ≡ rid_items doomed.now tables.old.present) }
     ensures earlier { OnOk result (tables.new.earlier ≡ tables.old.earlier ++ tables.old.present ∷ []) }
@@ -449,11 +458,38 @@ fn take_away(
 {
     let mark = tables.mark();
     tables.begin()?;
-    match be_rid_of(alloc, tables, columns, doomed) {
+    match be_rid_of(alloc, tables, columns, doomed, places) {
         Ok(items) => Ok(items),
         Err(refusal) => {
             tables.undo_to(mark);
             Err(refusal)
         }
+    }
+}
+
+// Drops what undo keeps, and the rows of gone objects where they are more than half of all.
+fn settle(tables: &mut Tables)
+    requires { IsSound tables.old.present }
+    ensures present { moment tables.new.present ≡ moment tables.old.present }
+    ensures earlier { tables.new.earlier ≡ [] }
+    ensures sound { IsSound tables.new.present }
+    ensures listed { (references : List Reference) → IsListed references tables.old.present → IsListed references tables.new.present }
+{
+    let rows = tables.objects().len() as u64;
+    if rows / 2 > tables.counters().objects {
+        tables.compact();
+    } else {
+        tables.forget();
+    }
+}
+
+// Drops the references that no state cell holds, where they are more than half of all.
+fn purge(references: &mut References, tables: &Tables)
+    requires sound { IsSound tables.now.present }
+    requires listed { IsListed references.old tables.now.present }
+    ensures { IsListed references.new tables.now.present }
+{
+    if references.len() as u64 / 2 > tables.counters().values {
+        references.keep_held(tables.cells());
     }
 }

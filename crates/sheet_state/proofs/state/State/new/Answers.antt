@@ -7,7 +7,9 @@ use Rattle.sheet_objects.specs.declared.row.ObjectRow.{ObjectRow}
 use Rattle.sheet_meaning.specs.WellFormed.{state_columns}
 use Rattle.sheet_state.specs.Births.{with_rows}
 use Rattle.sheet_state.specs.Kept.{IsMoment, schema_of, object_columns}
+use Rattle.sheet_state.specs.Places.{IsListed}
 use Rattle.sheet_state.specs.Rows.{moment, state_of, IsSound}
+use Rattle.sheet_state.proofs.Listed.{cells_born}
 use Rattle.sheet_state.proofs.Starting.{first, state_first, sound_first, moment_first}
 use Rattle.sheet_state.proofs.state.State.new.Goals as goal
 
@@ -36,6 +38,8 @@ invariant_of-result c = (
   subst IsSound (sym (made c)) (sound_first c.args.columns.now c.weight_of-weight.ensures.tree (counted c.weight_of-weight.result.0 c.weight_of-weight.result.1) refl refl c.weight_of-weight.ensures.values),
   subst (AllByRecursion IsSound) (sym c.forget.ensures.earlier) tt,
   c.empty.ensures,
+  subst (IsListed _) (sym (made c)) (cells_born _ c.args.columns.now c.weight_of-weight.ensures.tree 0 0 [] tt),
+  subst (AllByRecursion (IsListed _)) (sym c.forget.ensures.earlier) tt,
 )
 
 pub returns-clause-state : goal.returns-clause-state

@@ -13,8 +13,10 @@ use Rattle.sheet_meaning.specs.Workbook.{object_at, column_in}
 use Rattle.sheet_state.specs.Births.{formula_columns, firsts}
 use Rattle.sheet_state.specs.Kept.{IsKept, IsMoment, AreChanged, book, schema_of}
 use Rattle.sheet_state.specs.Limits.{first_full, full_of, Refuses}
+use Rattle.sheet_state.specs.Places.{IsListed}
 use Rattle.sheet_state.specs.Rows.{is_set, moment, state_of, IsSound}
 use Rattle.sheet_state.proofs.Back.{all_push}
+use Rattle.sheet_state.proofs.Listed.{cells_born}
 use Rattle.sheet_state.proofs.Lookups.{FirstAt, first_at}
 use Rattle.sheet_state.proofs.SetRows.{row_read}
 use Rattle.sheet_state.proofs.Born.{full_born, state_born, sound_born, moment_born, changed_born, extent_found}
@@ -85,6 +87,8 @@ invariant_of-self-2 c =
           (ap (λ (x : Counters). x.objects + 1) c.counters-counters.ensures) (values_are c)),
       subst (AllByRecursion IsSound) (sym c.in_ok-items.ensures.earlier) (all_push IsSound c.self.inside.tables.earlier t c.self.invariant.1 c.self.invariant.0),
       c.self.invariant.2,
+      subst (IsListed c.self.inside.references) (sym c.in_ok-items.ensures.present) (cells_born c.self.inside.references c.args.columns.now c.weight_of-weight.ensures.tree t.counters.next c.args.column t.cells c.self.invariant.3),
+      subst (AllByRecursion (IsListed c.self.inside.references)) (sym c.in_ok-items.ensures.earlier) (all_push (IsListed c.self.inside.references) c.self.inside.tables.earlier t c.self.invariant.4 c.self.invariant.3),
     )
 
 state_is : (c : goal.In_ok-items) → state_of c.create.new.tables.present ≡ with_object (schema_of c.args.columns.now) c.args.self.now.present.state c.args.column c.args.parent

@@ -13,11 +13,13 @@ use Rattle.sheet_meaning.specs.Formula.{sets_equal}
 use Rattle.sheet_meaning.specs.declared.refusal.Which.TheVariants.{Values}
 use Rattle.sheet_state.specs.Kept.{IsKept, IsMoment, AreChanged, book}
 use Rattle.sheet_state.specs.Limits.{first_full}
+use Rattle.sheet_state.specs.Places.{IsListedRow, IsListed}
 use Rattle.sheet_state.specs.Rows.{is_set, moment, state_of, IsSound}
 use Rattle.sheet_state.proofs.Back.{all_push}
 use Rattle.sheet_state.proofs.Lookups.{FirstAt, first_at, first_read}
 use Rattle.sheet_state.proofs.Setting.{cell_found, old_counted, counted_as, moment_after, full_after, room_after, after, sound_after, state_after, there, held}
-use Rattle.sheet_state.proofs.SetRows.{row}
+use Rattle.sheet_state.proofs.Listed.{Grows, listed_grown, all_grown}
+use Rattle.sheet_state.proofs.SetRows.{row, all_set}
 use Rattle.sheet_state.proofs.WithSet.{none_changed, one_changed, sets_are, sets_same}
 use Rattle.sheet_state.proofs.state.State.set_cell.Goals as goal
 
@@ -73,8 +75,29 @@ returns-then-len-others-clause-full c =
 
 pub invariant_of-self : goal.invariant_of-self
 invariant_of-self c =
+    let old = c.self.inside.references in
+    let more = c.note_all.new.self in
+    let grows : Grows old more = record { kept = c.note_all.ensures.others } in (
+      c.self.invariant.0,
+      c.self.invariant.1,
+      c.self.invariant.2,
+      listed_grown old more grows c.self.inside.tables.present c.self.invariant.3,
+      all_grown old more grows c.self.inside.tables.earlier c.self.invariant.4,
+    )
+
+pub invariant_of-self-in_err-put_row : goal.invariant_of-self-in_err-put_row
+invariant_of-self-in_err-put_row c =
     let same = c.in_err-put_row.ensures.err in
-    subst (λ v. IsSound v.present × AllByRecursion IsSound v.earlier × (c.self.inside.nothing ≡ [])) (sym same) c.self.invariant
+    let old = c.self.inside.references in
+    let more = c.note_all.new.self in
+    let grows : Grows old more = record { kept = c.note_all.ensures.others } in
+    subst (λ v. IsSound v.present × AllByRecursion IsSound v.earlier × (c.self.inside.nothing ≡ []) × IsListed more v.present × AllByRecursion (IsListed more) v.earlier) (sym same) (
+      c.self.invariant.0,
+      c.self.invariant.1,
+      c.self.invariant.2,
+      listed_grown old more grows c.self.inside.tables.present c.self.invariant.3,
+      all_grown old more grows c.self.inside.tables.earlier c.self.invariant.4,
+    )
 
 row_at : (c : goal.In_ok-put_row) → (r : SetRow) × FirstAt (is_set c.args.object c.args.column) c.self.inside.tables.present.cells c.in-Some.place r
 row_at c = found c.cells.result.now c.self.inside.tables.present.cells c.args.object c.args.column c.in-Some.place c.cells.ensures c.in-Some.ensures
@@ -108,10 +131,15 @@ made c =
 pub invariant_of-self-2 : goal.invariant_of-self-2
 invariant_of-self-2 c =
     let t = c.self.inside.tables.present in
+    let old = c.self.inside.references in
+    let more = c.note_all.new.self in
+    let grows : Grows old more = record { kept = c.note_all.ensures.others } in
     let f = row_at c in (
       subst IsSound (sym (made c)) (sound_after t c.self.invariant.0 c.args.object c.args.column c.args.set c.in-Some.place f.0 f.1 _ (values_are c)),
       subst (AllByRecursion IsSound) (sym c.in_ok-put_row.ensures.earlier) (all_push IsSound c.self.inside.tables.earlier t c.self.invariant.1 c.self.invariant.0),
       c.self.invariant.2,
+      subst (IsListed more) (sym (made c)) (all_set (IsListedRow more) t.cells c.in-Some.place (row c.args.object c.args.column c.args.set) (listed_grown old more grows t c.self.invariant.3) (λ live n e. c.in_ok-note_all.ensures.noted n e)),
+      subst (AllByRecursion (IsListed more)) (sym c.in_ok-put_row.ensures.earlier) (all_push (IsListed more) c.self.inside.tables.earlier t (all_grown old more grows c.self.inside.tables.earlier c.self.invariant.4) (listed_grown old more grows t c.self.invariant.3)),
     )
 
 state_is : (c : goal.In_ok-put_row) → state_of c.put_row.new.tables.present ≡ with_set c.args.self.now.present.state c.args.object c.args.column c.args.set

@@ -1,0 +1,5 @@
+pub mod Between
+pub mod Descending
+pub mod Inserted
+pub mod Numbers
+pub mod Searched
