@@ -38,21 +38,21 @@ use Rattle.printed_formulas.proofs.Quoting.{text_seen}
 
 -- ---- what is read of a text at an offset of the first line, before that rest
 
-record Read (n : Nonterminal) (text rest : List ℕ) (at : ℕ) (e : Tree) (depth most : ℕ) : Type 0 where
-  ts : List Token
-  nest : ℕ
-  seen : Seen text rest at ts
-  produced : Produces n ts (form e depth nest)
-  narrow : nest ≤ most
-  lined : line_of ts ≡ 1
+pub record Read (n : Nonterminal) (text rest : List ℕ) (at : ℕ) (e : Tree) (depth most : ℕ) : Type 0 where
+  pub ts : List Token
+  pub nest : ℕ
+  pub seen : Seen text rest at ts
+  pub produced : Produces n ts (form e depth nest)
+  pub narrow : nest ≤ most
+  pub lined : line_of ts ≡ 1
 
-abbrev Back : Nonterminal → List ℕ → Tree → ℕ → ℕ → Type 0
+abbrev pub Back : Nonterminal → List ℕ → Tree → ℕ → ℕ → Type 0
 Back n text e depth most = (at : ℕ) (rest : List ℕ) → Ends rest → Read n text rest at e depth most
 
 -- a formula is read back, and as an operand too
-record Both (e : Tree) (depth : ℕ) : Type 0 where
-  whole : Back expression (formula_text e) (on_one_line e) depth depth
-  part : Back postfix (operand e (formula_text e)) (on_one_line e) depth depth
+pub record Both (e : Tree) (depth : ℕ) : Type 0 where
+  pub whole : Back expression (formula_text e) (on_one_line e) depth depth
+  pub part : Back postfix (operand e (formula_text e)) (on_one_line e) depth depth
 
 -- ---- operands are forms of all levels
 
@@ -406,7 +406,7 @@ prefix_back prefix.Not line e d b =
 name_kind : (name : List ℕ) → is_reserved name ≡ false → word_kind name ≡ kind.Name name
 name_kind name h = rw h refl
 
-name_seen : (name rest : List ℕ) (at : ℕ) → IsWord name → is_reserved name ≡ false → Ends rest → (end : ℕ) × Seen name rest at (token (kind.Name name) at end ∷ [])
+pub name_seen : (name rest : List ℕ) (at : ℕ) → IsWord name → is_reserved name ≡ false → Ends rest → (end : ℕ) × Seen name rest at (token (kind.Name name) at end ∷ [])
 name_seen name rest at w h ends =
     let (end, s) = word_seen name rest at w ends in
     let P : TokenKind → Type 0 = λ k. Seen name rest at (token k at end ∷ []) in
@@ -415,7 +415,7 @@ name_seen name rest at w h ends =
 reserved_kind : (word : List ℕ) → is_reserved word ≡ true → word_kind word ≡ kind.Reserved word
 reserved_kind word h = rw h refl
 
-reserved_seen : (word rest : List ℕ) (at : ℕ) → IsWord word → is_reserved word ≡ true → Ends rest → (end : ℕ) × Seen word rest at (token (kind.Reserved word) at end ∷ [])
+pub reserved_seen : (word rest : List ℕ) (at : ℕ) → IsWord word → is_reserved word ≡ true → Ends rest → (end : ℕ) × Seen word rest at (token (kind.Reserved word) at end ∷ [])
 reserved_seen word rest at w h ends =
     let (end, s) = word_seen word rest at w ends in
     let P : TokenKind → Type 0 = λ k. Seen word rest at (token k at end ∷ []) in
@@ -427,7 +427,7 @@ one_token e d k enclosed line is see =
     open_form e 1 (formula_text e) d enclosed refl line
     (λ at rest ends. let (end, s) = see rest at ends in record { ts = token k at end ∷ []; nest = 0; seen = s; produced = no_step _ _ (a_leaf _ d is); narrow = omega arith; lined = refl })
 
-a_word : (text : List ℕ) (c : ℕ) (cs : List ℕ) → text ≡ c ∷ cs → is_letter c ≡ true → AllPass is_in_word (c ∷ cs) → nat_le (length (c ∷ cs)) 63 ≡ true → IsWord text
+pub a_word : (text : List ℕ) (c : ℕ) (cs : List ℕ) → text ≡ c ∷ cs → is_letter c ≡ true → AllPass is_in_word (c ∷ cs) → nat_le (length (c ∷ cs)) 63 ≡ true → IsWord text
 a_word text c cs is letter passes short = record { first = c; others = cs; is = is; letter = letter; passes = passes; short = short }
 
 leaf_sign : (line : ℕ) (s : Sign) (e : Tree) → leaf_of line s ≡ Some e → Both e 1
@@ -757,11 +757,11 @@ empty_back line =
 
 -- ---- all forms
 
-named_word : (k : TokenKind) (name : List ℕ) → k ≡ kind.Name name → Lexable k → IsWord name × (is_reserved name ≡ false)
+pub named_word : (k : TokenKind) (name : List ℕ) → k ≡ kind.Name name → Lexable k → IsWord name × (is_reserved name ≡ false)
 named_word k name is h = let P : TokenKind → Type 0 = Lexable in subst P is h
 
 mutual
-  back : (n : Nonterminal) (ts : List Token) (f : Form) → Produces n ts f → Good ts → Both f.tree f.depth
+  pub back : (n : Nonterminal) (ts : List Token) (f : Form) → Produces n ts f → Good ts → Both f.tree f.depth
   back _ _ _ (a_choice i t e cs xs ys c x y a b d g h k) good =
       let (gc, g1) = good_front cs (t ∷ (xs ++ e ∷ ys)) good.1 in
       let (gx, g2) = good_front xs (e ∷ ys) g1.1 in

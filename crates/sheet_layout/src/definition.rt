@@ -1,7 +1,9 @@
 // The lines of procedures and views, and whole definitions.
-ghost use Rattle.std.specs.Prelude.{◌≡◌, ◌++◌, [], map, flat_map, codes, IfOk, OnOk};
+ghost use Rattle.std.specs.Prelude.{ℕ, List, ◌≡◌, ◌≤◌, ◌++◌, [], map, flat_map, codes, IfOk, OnOk};
 ghost use Rattle.sheet_trees.specs.Printing.{formula_text};
-ghost use Rattle.sheet_definitions.specs.Printing.{line_at, inside as inside_margin, braced, path_text, header_text, statement_text, show_text, part_text, declaration_text, declarations_text, depth_of as depth_of_declaration, open_behind as open_behind_declaration, definition_text, procedure_text, view_text};
+ghost use Rattle.sheet_definitions.specs.Printing.{line_at, inside as inside_margin, braced, path_text, header_text, statement_text, show_text, part_text, declaration_text, declarations_text, depth_of as depth_of_declaration, open_behind as open_behind_declaration, definition_text, printed_size, procedure_text, view_text};
+ghost use Rattle.sheet_definitions.specs.Grammar.{IsDefinition};
+ghost use Rattle.printed_definitions.specs.Back.{StandsButForLines};
 
 use crate::column::{append_column, append_ends};
 use crate::head::{append_header, append_path};
@@ -19,7 +21,17 @@ use std::alloc::Global;
 ///
 /// Each column, procedure, view, part and statement stands on a line of its own, with two spaces before it for each brace
 /// that is open, and so does each closing brace, but for `} else {`. Every line ends with a line feed.
+///
+/// The text of a definition that some text stands for stands for that definition, but for the lines, where it has 262,144
+/// bytes at most: `printed_length` tells.
 pub fn print_definition(alloc: Global, definition: &Definition) -> Result<Vec<u8>, NoMemory>
+    ensures exact { IfOk result (λ text. text.items ≡ definition_text definition.now) }
+    ensures reads_back { IfOk result (λ text. (source : List ℕ) → IsDefinition source definition.now → printed_size definition.now ≤ 262144 → StandsButForLines text.items definition.now) }
+{
+    text_of(alloc, definition)
+}
+
+fn text_of(alloc: Global, definition: &Definition) -> Result<Vec<u8>, NoMemory>
     ensures { IfOk result (λ text. text.items ≡ definition_text definition.now) }
 {
     let mut text = Vec::new(alloc);

@@ -1,16 +1,8 @@
-use Rattle.std.proofs.Common.{◌≡◌, List, [], ◌<◌, ◌≤◌, ◌+◌, ◌-◌, ◌++◌, ℕ, zero, suc, refl, sym, ap, ◌∙◌, arith, append_assoc, append-nil}
+use Rattle.std.proofs.Common.{◌-◌, ◌++◌, sym, ap, ◌∙◌, append_assoc, append-nil}
 use Rattle.std.specs.Prelude.{codes}
 use Rattle.sheet_definitions.specs.Printing.{closings, line_at, margin}
+use Rattle.printed_definitions.proofs.Closings.{closing_next, closing_none}
 use Rattle.sheet_layout.proofs.column.append_ends.Goals as goal
-
-closing_next : (left depth : ℕ) → depth < left → closings (left - depth) depth ≡ line_at (margin (left - 1)) (codes "}") ++ closings ((left - 1) - depth) depth
-closing_next left depth h =
-    let count : left - depth ≡ suc ((left - 1) - depth) = omega arith in
-    let last : depth + ((left - 1) - depth) ≡ left - 1 = omega arith in
-    ap (λ n. closings n depth) count ∙ ap (λ n. line_at (margin n) (codes "}") ++ closings ((left - 1) - depth) depth) last
-
-closing_none : (left depth : ℕ) → left ≤ depth → closings (left - depth) depth ≡ []
-closing_none left depth h = let none : left - depth ≡ 0 = omega arith in ap (λ n. closings n depth) none
 
 pub loop-left-preserved : goal.loop-left-preserved
 loop-left-preserved c =

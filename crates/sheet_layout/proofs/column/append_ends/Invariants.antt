@@ -1,4 +1,4 @@
-use Rattle.std.proofs.Common.{◌≡◌, ◌-◌, ◌≤◌, ◌++◌}
+use Rattle.std.proofs.Common.{◌≡◌, ◌-◌, ◌++◌}
 use Rattle.sheet_definitions.specs.Printing.{closings}
 use Rattle.sheet_layout.proofs.column.append_ends.Given as goal
 

@@ -1,5 +1,5 @@
 use Rattle.std.proofs.Common.{sym}
-use Rattle.sheet_layout.proofs.Statements.{text-If, text-IfElse, text-For}
+use Rattle.printed_definitions.proofs.Nested.{text-If, text-IfElse, text-For}
 use Rattle.sheet_layout.proofs.statement.+statements.Goals as goal
 
 pub append_statement-returns-in-If : goal.append_statement-returns-in-If

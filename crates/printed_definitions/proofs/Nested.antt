@@ -1,5 +1,5 @@
--- The texts of the statements that hold statements, where those are lists.
-use Rattle.std.proofs.Common.{◌≡◌, refl, ap, ◌∙◌, ℕ, List, ◌++◌}
+-- The statements that hold statements, where those are lists: their texts, and the same in one line.
+use Rattle.std.proofs.Common.{◌≡◌, refl, ap, ◌∙◌, ℕ, List, ◌∷◌, ◌++◌, map}
 use Rattle.std.specs.Prelude.{codes}
 use Rattle.std.specs.List.{flat_map}
 use Rattle.sheet_trees.specs.declared.tree.Tree.{Tree}
@@ -7,7 +7,9 @@ use Rattle.sheet_trees.specs.Printing.{formula_text}
 use Rattle.sheet_definitions.specs.declared.statement.Statement.{Statement, Row_of-Statement, end_of-Statement, more_of-Statement, items-the_row-Statement, items_hidden-the_row-Statement-0}
 use Rattle.sheet_definitions.specs.declared.statement.Statement.TheVariants as statement
 use Rattle.sheet_definitions.specs.declared.statement.Statement.TheBlock.{hidden-the_row-Statement-0}
+use Rattle.sheet_trees.specs.Texts.{on_one_line}
 use Rattle.sheet_definitions.specs.Printing.{statement_text, statements_text, line_at, braced, inside}
+use Rattle.printed_definitions.specs.Lines.{statement_on_one_line, statements_on_one_line}
 
 -- the statements inside one more brace
 abbrev lines : List Statement → List ℕ → List ℕ
@@ -37,3 +39,21 @@ pub text-For : (line : ℕ) (name : List ℕ) (e : Tree) (body : List Statement)
     → statement_text (statement.For line name e body) margin
     ≡ braced margin (codes "for " ++ name ++ codes " in " ++ formula_text e) (flat_map (λ x. statement_text x (inside margin)) body)
 text-For line name e body margin = ap (braced margin (codes "for " ++ name ++ codes " in " ++ formula_text e)) (listed body margin)
+
+each_line : {m : _} (r : Row_of-Statement m) → statements_on_one_line r ≡ map statement_on_one_line (items-the_row-Statement m r)
+each_line end_of-Statement = refl
+each_line (more_of-Statement x rest) = ap (λ xs. statement_on_one_line x ∷ xs) (each_line rest)
+
+lined : (xs : List Statement) → statements_on_one_line (hidden-the_row-Statement-0 xs) ≡ map statement_on_one_line xs
+lined xs = each_line (hidden-the_row-Statement-0 xs) ∙ ap (map statement_on_one_line) (items_hidden-the_row-Statement-0 xs)
+
+pub line-If : (line : ℕ) (e : Tree) (body : List Statement) → statement_on_one_line (statement.If line e body) ≡ statement.If 1 (on_one_line e) (map statement_on_one_line body)
+line-If line e body = ap (statement.If 1 (on_one_line e)) (lined body)
+
+pub line-IfElse : (line : ℕ) (e : Tree) (body otherwise : List Statement)
+    → statement_on_one_line (statement.IfElse line e body otherwise) ≡ statement.IfElse 1 (on_one_line e) (map statement_on_one_line body) (map statement_on_one_line otherwise)
+line-IfElse line e body otherwise =
+    ap (λ xs. statement.IfElse 1 (on_one_line e) xs (statements_on_one_line (hidden-the_row-Statement-0 otherwise))) (lined body) ∙ ap (statement.IfElse 1 (on_one_line e) (map statement_on_one_line body)) (lined otherwise)
+
+pub line-For : (line : ℕ) (name : List ℕ) (e : Tree) (body : List Statement) → statement_on_one_line (statement.For line name e body) ≡ statement.For 1 name (on_one_line e) (map statement_on_one_line body)
+line-For line name e body = ap (statement.For 1 name (on_one_line e)) (lined body)

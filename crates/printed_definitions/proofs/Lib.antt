@@ -1,0 +1,12 @@
+pub mod Columns
+pub mod Encoded
+pub mod Heads
+pub mod Lowered
+pub mod Moved
+pub mod Nested
+pub mod Pieces
+pub mod Statements
+pub mod Views
+pub mod Whole
+pub mod Written
+pub mod Closings
