@@ -1,0 +1,26 @@
+//! Whole definitions are read from texts, and printed.
+#![tactic(auto)]
+
+mod column;
+mod declaration;
+mod front;
+mod parameter;
+mod read;
+mod statement;
+mod target;
+mod types;
+mod view;
+
+pub use read::{DefinitionRefusal, read_definition};
+pub use sheet_definitions::{
+    Column, Content, Declaration, Definition, Literal, Parameter, Part, Path, Procedure, Show,
+    Statement, Target, TypeName, View,
+};
+pub use sheet_layout::print_definition;
+pub use sheet_lengths::printed_length;
+pub use sheet_syntax::SyntaxRefusal;
+
+#[cfg(test)]
+mod samples;
+#[cfg(test)]
+mod tests;
