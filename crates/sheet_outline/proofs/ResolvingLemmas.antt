@@ -17,7 +17,8 @@ use Rattle.sheet_definitions.specs.declared.definition.Literal.TheVariants as li
 use Rattle.sheet_definitions.specs.declared.definition.Declaration.{Declaration}
 use Rattle.sheet_definitions.specs.declared.definition.Declaration.TheVariants as declaration
 use Rattle.sheet_typing.specs.declared.refusal.TypeRefusal.TheVariants.{Mismatch, NeedsFirst}
-use Rattle.sheet_typing.specs.Kinds.{same_kind, kind_text}
+use Rattle.sheet_kinds.specs.Kinds.{same_kind}
+use Rattle.sheet_typing.specs.Kinds.{kind_text}
 use Rattle.sheet_outline.specs.declared.resolving.Resolved.{Resolved}
 use Rattle.sheet_outline.specs.Columns.{is_object, objects_at, objects_in, is_object_node, IsCounted, AreFitting}
 use Rattle.sheet_outline.specs.Orderly.{IsOrderlyAt, IsOrderlyFrom, IsUnsignedAt, count_behind}

@@ -29,7 +29,8 @@ use Rattle.sheet_outline.specs.Orderly.{IsOrderlyFrom}
 use Rattle.sheet_outline.specs.Types.{follow, is_object_column, if_object_column, object_column_at, kind_of, declared_kind, first_value, state_column, column_content}
 use Rattle.sheet_outline.specs.Resolving.{resolve_parameter, parameters_of, resolve, nothing_resolved, all_resolved}
 use Rattle.sheet_outline.specs.Outlines.{filled, outline_of}
-use Rattle.sheet_outline.specs.Within.{form, forms_at, forms_in, IsKindIn, IsHeldIn, AreKindsIn, IsWithin, OutlinesAreWithin}
+use Rattle.sheet_outline.specs.Within.{form, forms_at, forms_in, IsWithin, OutlinesAreWithin}
+use Rattle.sheet_kinds.specs.Columns.{IsKindIn, IsHeldIn, AreKindsIn}
 use Rattle.sheet_outline.proofs.StepLemmas.{both_ok, same_ok, passed}
 use Rattle.sheet_outline.proofs.NamingLemmas.{goes_on}
 use Rattle.sheet_outline.proofs.ResolvingLemmas.{grows}

@@ -18,7 +18,8 @@ use Rattle.sheet_definitions.specs.declared.definition.TypeName.{TypeName}
 use Rattle.sheet_definitions.specs.declared.definition.TypeName.TheVariants as type
 use Rattle.sheet_typing.specs.declared.refusal.TypeRefusal.TheVariants.{UnknownName, Mismatch, NeedsFirst}
 use Rattle.sheet_typing.specs.Answers.{Answer, ◌>>=◌}
-use Rattle.sheet_typing.specs.Kinds.{same_kind, kind_text}
+use Rattle.sheet_kinds.specs.Kinds.{same_kind}
+use Rattle.sheet_typing.specs.Kinds.{kind_text}
 
 -- the column that names lead to, from a column down
 abbrev pub follow : List Node → ℕ → List (List ℕ) → Option ℕ

@@ -7,6 +7,7 @@ use Rattle.sheet_columns.specs.declared.tree.Column.{Column}
 use Rattle.sheet_columns.specs.declared.tree.Column.TheVariants as column
 use Rattle.sheet_columns.specs.declared.tree.Node.{Node}
 use Rattle.sheet_columns.specs.Tree.{column_of}
+use Rattle.sheet_kinds.specs.Columns.{IsHeldIn, AreKindsIn}
 use Rattle.sheet_definitions.specs.declared.definition.Declaration.{Declaration}
 use Rattle.sheet_definitions.specs.declared.definition.Declaration.TheVariants as declaration
 use Rattle.sheet_definitions.specs.declared.definition.Definition.{Definition}
@@ -14,22 +15,6 @@ use Rattle.sheet_outline.specs.declared.outline.Outline.{Outline}
 use Rattle.sheet_outline.specs.Naming.{untyped}
 use Rattle.sheet_outline.specs.Orderly.{IsOrderly}
 use Rattle.sheet_outline.specs.Outlines.{outlined}
-
--- a type of objects is that of an object column
-abbrev pub IsKindIn : List Node → Kind → Type 0
-IsKindIn nodes kind.Unknown = Unit {0}
-IsKindIn nodes kind.Truth = Unit {0}
-IsKindIn nodes kind.Number = Unit {0}
-IsKindIn nodes kind.Text = Unit {0}
-IsKindIn nodes (kind.Object c) = column_of nodes c ≡ Some column.Object
-
-abbrev pub IsHeldIn : List Node → Column → Type 0
-IsHeldIn nodes column.Object = Unit {0}
-IsHeldIn nodes (column.State k one first) = IsKindIn nodes k
-IsHeldIn nodes (column.Formula k) = IsKindIn nodes k
-
-abbrev pub AreKindsIn : List Node → List (List ℕ × Kind) → Type 0
-AreKindsIn nodes ps = AllByRecursion (λ (p : List ℕ × Kind). IsKindIn nodes p.1) ps
 
 -- a column without its types and its first value
 abbrev pub form : Column → Column

@@ -1,1 +1,4 @@
+pub mod Alike
+pub mod MentionLaws
+pub mod SteadyLemmas
 pub mod TypeLemmas

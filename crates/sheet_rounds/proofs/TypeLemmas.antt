@@ -7,7 +7,8 @@ use Rattle.sheet_columns.specs.declared.tree.Column.{Column}
 use Rattle.sheet_columns.specs.declared.tree.Node.{Node}
 use Rattle.sheet_columns.specs.Tree.{column_of}
 use Rattle.sheet_trees.specs.declared.tree.Tree.{Tree}
-use Rattle.sheet_rounds.specs.Rounds.{kind_of_column, kinds_from, round, rounds}
+use Rattle.sheet_kinds.specs.Columns.{kind_of_column, kinds_from}
+use Rattle.sheet_rounds.specs.Rounds.{round, rounds}
 
 -- the type of the column of a number, before those of the columns behind it
 pub by_itself : (nodes : List Node) (c k : ℕ) (w : Column) → column_of nodes c ≡ Some w → kinds_from k (drop c nodes) ≡ kind_of_column k w ∷ kinds_from (k + 1) (drop (suc c) nodes)

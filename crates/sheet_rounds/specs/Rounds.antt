@@ -2,10 +2,8 @@
 use Rattle.std.specs.Prelude.{ℕ, zero, suc, ◌+◌, Bool, true, false, if◌then◌else◌, List, [], ◌∷◌, Option, Some, None, Ok, Err, codes, slice_index_or}
 use Rattle.sheet_values.specs.declared.value.Kind.{Kind}
 use Rattle.sheet_values.specs.declared.value.Kind.TheVariants as kind
-use Rattle.sheet_columns.specs.declared.tree.Column.{Column}
-use Rattle.sheet_columns.specs.declared.tree.Column.TheVariants as column
 use Rattle.sheet_columns.specs.declared.tree.Node.{Node}
-use Rattle.sheet_columns.specs.Tree.{above_of}
+use Rattle.sheet_kinds.specs.Columns.{kinds_from, home}
 use Rattle.sheet_trees.specs.declared.tree.Tree.{Tree}
 use Rattle.sheet_definitions.specs.declared.definition.Content.{Content}
 use Rattle.sheet_definitions.specs.declared.definition.Content.TheVariants as content
@@ -39,24 +37,6 @@ abbrev pub count_formulas : List (Option Tree) → ℕ
 count_formulas [] = zero
 count_formulas (None ∷ es) = count_formulas es
 count_formulas (Some e ∷ es) = suc (count_formulas es)
-
--- the type that a column has by itself: a state column its own, a formula column its declared one, where it has one
-abbrev pub kind_of_column : ℕ → Column → Kind
-kind_of_column c column.Object = kind.Object c
-kind_of_column c (column.State k one first) = k
-kind_of_column c (column.Formula k) = k
-
-abbrev pub kinds_from : ℕ → List Node → List Kind
-kinds_from c [] = []
-kinds_from c (n ∷ nodes) = kind_of_column c n.column ∷ kinds_from (c + 1) nodes
-
-abbrev pub home_at : Option ℕ → ℕ
-home_at None = 0
-home_at (Some above) = above
-
--- the column directly above, which `this` gives an object of in a formula; the root has none, and no formula
-abbrev pub home : List Node → ℕ → ℕ
-home nodes c = home_at (above_of nodes c)
 
 -- what is in reach of the formula of a column: `this`, an object of the column above
 abbrev pub at_column : List Node → List Kind → ℕ → Reach

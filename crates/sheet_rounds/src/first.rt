@@ -1,6 +1,7 @@
 // What columns tell by themselves.
 ghost use Rattle.std.specs.Prelude.{◌≡◌, ◌≤◌, length, true, IfOk, option_map};
-ghost use Rattle.sheet_rounds.specs.Rounds.{kind_of_column as kind_by_itself, kinds_from, formula_in as formula_of_content, count_formulas as count_all, written_formulas, is_unknown as has_no_kind};
+ghost use Rattle.sheet_kinds.specs.Columns.{kind_of_column as kind_by_itself, kinds_from};
+ghost use Rattle.sheet_rounds.specs.Rounds.{formula_in as formula_of_content, count_formulas as count_all, written_formulas, is_unknown as has_no_kind};
 
 use sheet_columns::{Column, Columns, Sequence};
 use sheet_definitions::{Content, Declaration};
@@ -18,8 +19,9 @@ fn kind_of_column(number: u32, column: &Column) -> Kind
     }
 }
 
-/// The types that the columns have by themselves, by number.
-pub(crate) fn first_kinds(alloc: Global, columns: &Columns) -> Result<Sequence<Kind>, NoMemory>
+/// The types that the columns have by themselves, by number: an object column's own objects, a state column's type, and a formula
+/// column's, as far as it is known.
+pub fn first_kinds(alloc: Global, columns: &Columns) -> Result<Sequence<Kind>, NoMemory>
     ensures kinds { IfOk result (λ kinds. kinds ≡ kinds_from 0 columns.now) }
     ensures few { length columns.now ≤ 1000 }
 {

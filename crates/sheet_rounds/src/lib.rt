@@ -2,7 +2,8 @@
 #![tactic(auto)]
 
 mod first;
+mod mentions;
 mod rounds;
 
-pub use first::formula_in;
+pub use first::{first_kinds, formula_in};
 pub use rounds::final_kinds;

@@ -16,8 +16,8 @@ use Rattle.sheet_columns.specs.declared.formula.Extremum.{Extremum}
 use Rattle.sheet_columns.specs.declared.formula.Quantifier.{Quantifier}
 use Rattle.sheet_columns.specs.declared.tree.Node.{Node}
 use Rattle.sheet_columns.specs.Tree.{column_of, above_of}
-use Rattle.sheet_typing.specs.Kinds.{common, has_order, objects_in}
-use Rattle.sheet_typing.specs.Rules.{kind_in, kinds_in, provided, serves, all_common, is_under, is_object, is_state, is_formula, ◌>>◌}
+use Rattle.sheet_kinds.specs.Kinds.{common, has_order, objects_in}
+use Rattle.sheet_kinds.specs.Formulas.{kind_in, kinds_in, provided, serves, all_common, is_under, is_object, is_state, is_formula, ◌>>◌}
 
 module _ (n : List Node) (k v : List Kind) where
   pub kind-ObjectStep : (e : Core) (c : ℕ) → kind_in (core.ObjectStep e c) n k v ≡ kind_in e n k v >> (λ x. provided (is_under n x c && is_object (column_of n c)) (kind.Object c))

@@ -37,11 +37,12 @@ use Rattle.sheet_typing.specs.declared.scope.Typed.{Typed}
 use Rattle.sheet_typing.specs.declared.scope.Variable.{Variable}
 use Rattle.sheet_typing.specs.declared.scope.Scope.{Scope}
 use Rattle.sheet_typing.specs.Answers.{Answer, Answers, ◌>>=◌}
-use Rattle.sheet_typing.specs.Kinds.{common, has_order, objects_in, mismatch, kind_text, agreed, ordered, object_column, column_above}
+use Rattle.sheet_kinds.specs.Kinds.{common, has_order, objects_in}
+use Rattle.sheet_typing.specs.Kinds.{mismatch, kind_text, agreed, ordered, object_column, column_above}
 use Rattle.sheet_typing.specs.Names.{Reach, reach, in_scope, within, bind, typed_as, variable_from, variable, step_to, child, upward, nearest, nearest_to, column_in_reach, named, word}
 use Rattle.sheet_typing.specs.Forms.{step, up, negated, denied, both_agreed, compared, in_order, operation_kind, operation_core, operation, branches, choice, all_agreed, set_of, call_kind, call_core, called, no_condition, gathered_kind, gathered_core, gathered, quantifier_of, tested}
 use Rattle.sheet_typing.specs.Typing.{typed, typed_each, line_of}
-use Rattle.sheet_typing.specs.Rules.{kind_in, provided, serves, all_common, is_under, is_object, is_state, is_formula, ◌>>◌}
+use Rattle.sheet_kinds.specs.Formulas.{kind_in, provided, serves, all_common, is_under, is_object, is_state, is_formula, ◌>>◌}
 use Rattle.sheet_typing.proofs.Agreeing.{came, same_ok}
 use Rattle.sheet_typing.proofs.Finding.{child_is_under}
 use Rattle.sheet_typing.proofs.Rules.{kind-ObjectStep, kind-StateStep, kind-FormulaStep, kind-Up, kind-Combine, kind-Compare, kind-Order, kind-Arithmetic, kind-Negate, kind-Join, kind-Not, kind-Connect, kind-If, kind-Count, kind-Only, kind-Extreme, kind-Comprehension, kind-Sum, kind-Quantify, kind-Set, kinds_of_all, kinds_of_none, kinds_of_more}

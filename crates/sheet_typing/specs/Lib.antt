@@ -2,5 +2,4 @@ pub mod Answers
 pub mod Forms
 pub mod Kinds
 pub mod Names
-pub mod Rules
 pub mod Typing

@@ -6,7 +6,7 @@ ghost use Rattle.sheet_typing.specs.Answers.{Answers, AnswersAs};
 ghost use Rattle.sheet_typing.specs.Names.{within, in_scope, bind};
 ghost use Rattle.sheet_typing.specs.Forms.{step as step_form, up as up_form, negated as negated_form, denied as denied_form, operation as operation_form, choice as choice_form, set_of as set_form, called as called_form, no_condition as condition_left_out, gathered as gathered_form, tested as tested_form};
 ghost use Rattle.sheet_typing.specs.Typing.{typed as typed_tree, typed_list, typed_then, list_then, line_of as line_of_tree};
-ghost use Rattle.sheet_typing.specs.Rules.{kind_in};
+ghost use Rattle.sheet_kinds.specs.Formulas.{kind_in};
 
 use crate::forms::{
     called, choice, denied, gathered, negated, no_condition, operation, set_of, step, tested, up,

@@ -2,7 +2,8 @@
 ghost use Rattle.std.specs.Prelude.{◌≡◌, ◌<◌, IfOk, IfSome, codes, option_and_then, length};
 ghost use Rattle.sheet_columns.specs.Tree.{above_of, IsTree};
 ghost use Rattle.sheet_typing.specs.Answers.{Answers};
-ghost use Rattle.sheet_typing.specs.Kinds.{common, has_order as has_order_of, objects_in, kind_text as text_of_kind, mismatch as mismatch_of, agreed, ordered as ordered_part, object_column, column_above};
+ghost use Rattle.sheet_kinds.specs.Kinds.{common, has_order as has_order_of, objects_in};
+ghost use Rattle.sheet_typing.specs.Kinds.{kind_text as text_of_kind, mismatch as mismatch_of, agreed, ordered as ordered_part, object_column, column_above};
 
 use crate::{TypeRefusal, Typed};
 use sheet_columns::Columns;

@@ -7,7 +7,7 @@ ghost use Rattle.sheet_typing.specs.declared.scope.Typed.{Typed as TheTyped};
 ghost use Rattle.sheet_typing.specs.declared.scope.Variable.{Variable as TheVariable};
 ghost use Rattle.sheet_typing.specs.Names.{reach};
 ghost use Rattle.sheet_typing.specs.Typing.{typed as typed_tree};
-ghost use Rattle.sheet_typing.specs.Rules.{kind_in};
+ghost use Rattle.sheet_kinds.specs.Formulas.{kind_in};
 
 /// A typed formula has its type by the rules for resolved formulas.
 pub fn typed_formulas_have_their_kinds()

@@ -1,5 +1,5 @@
 use Rattle.std.proofs.Common.{◌≡◌, ◌++◌, drop}
-use Rattle.sheet_rounds.specs.Rounds.{kinds_from}
+use Rattle.sheet_kinds.specs.Columns.{kinds_from}
 use Rattle.sheet_rounds.proofs.first.first_kinds.Given as goal
 
 abbrev pub invariant-loop-number : goal.invariant-loop-number

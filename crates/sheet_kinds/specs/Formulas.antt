@@ -8,7 +8,7 @@ use Rattle.sheet_columns.specs.declared.tree.Column.TheVariants.{Object, State, 
 use Rattle.sheet_columns.specs.declared.tree.Node.{Node}
 use Rattle.sheet_columns.specs.Tree.{column_of, above_of, is_number}
 use Rattle.sheet_columns.specs.declared.formula.Core.{Core, Truth, Number, Text, Root, Variable, ObjectStep', StateStep', FormulaStep', Up' as UpStep', Set', Combine', Compare', Order', Arithmetic', Negate', Join', Not', Connect', If', Count', Only', Extreme', Comprehension', Sum', Quantify', Row_of-Core, end_of-Core as end, more_of-Core as more}
-use Rattle.sheet_typing.specs.Kinds.{common, has_order, objects_in}
+use Rattle.sheet_kinds.specs.Kinds.{common, has_order, objects_in}
 
 -- what a second step makes of a type, where there is one
 infixl 10 ◌>>◌

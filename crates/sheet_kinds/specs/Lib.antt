@@ -1,0 +1,5 @@
+pub mod Columns
+pub mod Formulas
+pub mod Kinds
+pub mod Statements
+pub mod Views
