@@ -1,0 +1,9 @@
+pub mod Blocks
+pub mod Finding
+pub mod Holding
+pub mod Made
+pub mod Showing
+pub mod Starting
+pub mod Steps
+pub mod WellTyped
+pub mod Whole
