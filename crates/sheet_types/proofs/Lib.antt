@@ -1,0 +1,4 @@
+pub mod BookLemmas
+pub mod FillLemmas
+pub mod JudgingLemmas
+pub mod SettledLemmas
