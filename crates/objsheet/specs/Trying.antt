@@ -7,11 +7,15 @@ use Rattle.first_form.specs.FirstForm.{IsFirstForm}
 use Rattle.first_form.specs.declared.definition.Declaration.{Declaration}
 use Rattle.objsheet.specs.Answers.{Answers}
 
+-- the words are that one word
+abbrev pub IsWord : List ℕ → List (Vec ℕ Global) → Type 0
+IsWord word [] = ⊥
+IsWord word (only ∷ []) = only.items ≡ word
+IsWord word (only ∷ other ∷ more) = ⊥
+
 -- the words are the one word `try`
 abbrev pub IsTry : List (Vec ℕ Global) → Type 0
-IsTry [] = ⊥
-IsTry (word ∷ []) = word.items ≡ codes "try"
-IsTry (word ∷ other ∷ more) = ⊥
+IsTry words = IsWord (codes "try") words
 
 -- a text as a printed line
 abbrev pub printed : List ℕ → List ℕ

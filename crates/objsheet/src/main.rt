@@ -2,11 +2,18 @@
 #![tactic(auto)]
 
 mod attempt;
+mod check;
+mod command;
+mod phrase;
 mod run;
 mod serve;
+mod status;
 mod stop;
+mod verdict;
+mod whole;
 
-use crate::run::{OUT_OF_MEMORY, run};
+use crate::run::run;
+use crate::status::OUT_OF_MEMORY;
 use sheet_outside::{StdSink, StdSource};
 use std::process::ExitCode;
 use std::{env, io};

@@ -1,40 +1,24 @@
 // The top call.
-ghost use Rattle.std.specs.Prelude.{◌≡◌, ◌≢◌, ◌⊎◌, ◌↔◌, ◌<◌, ◌≤◌, ◌^◌, length, OnOk, OnErr, IsTrue};
-ghost use Rattle.sheet_outside.specs.Causes.{HasCause, Rose};
+ghost use Rattle.std.specs.Prelude.{◌≡◌, ◌⊎◌};
+ghost use Rattle.sheet_outside.specs.Causes.{Rose};
 ghost use Rattle.sheet_outside.specs.Told.{Gains, WhereTold};
 ghost use Rattle.sheet_lines.specs.Told.{both, GainsFront};
-ghost use Rattle.objsheet.specs.Trying.{IsTry, IsDone, IsRead, IsOther, IsRefused, HasCauseOfRefusal, IsStopped, IsBrokenOff, usage};
+ghost use Rattle.objsheet.specs.Trying.{IsTry, IsDone, IsRead, IsRefused, HasCauseOfRefusal, IsStopped, IsBrokenOff, usage};
+ghost use Rattle.objsheet.specs.Checking.{IsCheck, IsChecked, IsCheckedInput, IsUnfit, HasNoBook, Takes, IsCutOff};
 
 use crate::attempt::attempt;
+use crate::check::check;
+use crate::command::{Command, command_of};
+use crate::status::{DONE, OUT_OF_MEMORY, REFUSED, SINK_FAILED, SOURCE_FAILED, USAGE, say};
 use crate::stop::Stop;
-use sheet_lines::write_all;
 use sheet_outside::{Sink, Source};
 use std::alloc::Global;
 
-const TRY: &[u8] = b"try";
-
-/// All was done: the definition is of the first form, and the input was read to its end.
-pub const DONE: u8 = 0;
-
-/// The definition or the input is refused, and the refusal was printed.
-pub const REFUSED: u8 = 1;
-
-/// The words are no command, and `usage` was printed.
-pub const USAGE: u8 = 2;
-
-/// The source failed.
-pub const SOURCE_FAILED: u8 = 3;
-
-/// The sink failed.
-pub const SINK_FAILED: u8 = 4;
-
-/// There was no memory outside of an answered request.
-pub const OUT_OF_MEMORY: u8 = 7;
-
-/// Does all that the program does, and answers its status: one of the six above.
+/// Does all that the program does, and answers its status: one of the six of `status`.
 ///
-/// The one command is `try`. It reads a definition, a line `%%` and request lines, and answers each request line that
-/// isn't empty with one line. What is said of bytes is said where the source and the sink tell theirs.
+/// The commands are `check` and `try`. `check` reads a definition, which is the whole input, and writes one line: what its
+/// book holds, or why it is refused. `try` reads a definition, a line `%%` and request lines, and answers each request line
+/// that isn't empty with one line. What is said of bytes is said where the source and the sink tell theirs.
 pub fn run<S: Source, K: Sink>(
     alloc: Global,
     words: &[Vec<u8>],
@@ -42,33 +26,61 @@ pub fn run<S: Source, K: Sink>(
     output: &mut K,
 ) -> u8
     ensures statuses { (result ≡ 0) ⊎ ((result ≡ 1) ⊎ ((result ≡ 2) ⊎ ((result ≡ 3) ⊎ ((result ≡ 4) ⊎ (result ≡ 7))))) }
-    // Every status but 2 and 4 is that of `try`.
-    ensures known { (result ≡ 2) ⊎ ((result ≡ 4) ⊎ IsTry words.now) }
-    // Status 0: the input was read to its end. What was written is the replies of a run over its request lines.
-    ensures done { result ≡ 0 → WhereTold IsDone (both (S.left input.old) (K.written output.old)) (both (S.left input.new) (K.written output.new)) }
-    ensures done_input { result ≡ 0 → WhereTold IsRead (S.left input.old) (S.left input.new) }
-    // Status 1: the definition is not of the first form, or the input is too long, and that was written.
-    ensures refused { result ≡ 1 → WhereTold IsRefused (both (S.left input.old) (K.written output.old)) (both (S.left input.new) (K.written output.new)) }
-    ensures refused_input { result ≡ 1 → WhereTold HasCauseOfRefusal (S.left input.old) (S.left input.new) }
+    // Every status but 2 and 4 is that of a command.
+    ensures known { (result ≡ 2) ⊎ ((result ≡ 4) ⊎ (IsTry words.now ⊎ IsCheck words.now)) }
     // Status 2: the words are other ones, `usage` was written, and nothing was read.
-    ensures usage { result ≡ 2 → (IsTry words.now → ⊥) × Gains (K.written output.old) (K.written output.new) usage }
+    ensures usage { result ≡ 2 → (IsTry words.now → ⊥) × (IsCheck words.now → ⊥) × Gains (K.written output.old) (K.written output.new) usage }
     ensures unread { result ≡ 2 → S.left input.new ≡ S.left input.old }
-    ensures other_words { (IsTry words.now → ⊥) → (result ≡ 2) ⊎ (result ≡ 4) }
-    // Status 3: only where a call of the source failed. The replies to the lines taken were written.
+    ensures other_words { (IsTry words.now → ⊥) → (IsCheck words.now → ⊥) → (result ≡ 2) ⊎ (result ≡ 4) }
+    // Status 3: only where a call of the source failed. Status 4: only where a call of the sink failed.
     ensures source { result ≡ 3 → Rose (S.faults input.old) (S.faults input.new) }
-    ensures stopped { result ≡ 3 → WhereTold IsStopped (both (S.left input.old) (K.written output.old)) (both (S.left input.new) (K.written output.new)) }
-    // Status 4: only where a call of the sink failed. A front of what is due was written.
     ensures sink { result ≡ 4 → Rose (K.faults output.old) (K.faults output.new) }
+    ensures usage_broken { result ≡ 4 → (IsTry words.now → ⊥) → (IsCheck words.now → ⊥) → WhereTold (GainsFront usage) (K.written output.old) (K.written output.new) }
+    // Status 0 of `try`: the input was read to its end. What was written is the replies of a run over its request lines.
+    ensures done { result ≡ 0 → IsTry words.now → WhereTold IsDone (both (S.left input.old) (K.written output.old)) (both (S.left input.new) (K.written output.new)) }
+    ensures done_input { result ≡ 0 → IsTry words.now → WhereTold IsRead (S.left input.old) (S.left input.new) }
+    // Status 1 of `try`: the definition is not of the first form, or the input is too long, and that was written.
+    ensures refused { result ≡ 1 → IsTry words.now → WhereTold IsRefused (both (S.left input.old) (K.written output.old)) (both (S.left input.new) (K.written output.new)) }
+    ensures refused_input { result ≡ 1 → IsTry words.now → WhereTold HasCauseOfRefusal (S.left input.old) (S.left input.new) }
+    // Status 3 of `try`: the replies to the lines taken were written. Status 4 and 7: a front of what is due was written.
+    ensures stopped { result ≡ 3 → IsTry words.now → WhereTold IsStopped (both (S.left input.old) (K.written output.old)) (both (S.left input.new) (K.written output.new)) }
     ensures sink_broken { result ≡ 4 → IsTry words.now → WhereTold IsBrokenOff (both (S.left input.old) (K.written output.old)) (both (S.left input.new) (K.written output.new)) }
-    ensures usage_broken { result ≡ 4 → (IsTry words.now → ⊥) → WhereTold (GainsFront usage) (K.written output.old) (K.written output.new) }
-    // Status 7: there was no memory. A front of what is due was written.
-    ensures memory_broken { result ≡ 7 → WhereTold IsBrokenOff (both (S.left input.old) (K.written output.old)) (both (S.left input.new) (K.written output.new)) }
+    ensures memory_broken { result ≡ 7 → IsTry words.now → WhereTold IsBrokenOff (both (S.left input.old) (K.written output.old)) (both (S.left input.new) (K.written output.new)) }
     // Where no call failed, a good definition and an input that isn't too long come to status 0, unless memory ran out.
     ensures complete { IsTry words.now → (Rose (S.faults input.old) (S.faults input.new) → ⊥) → (Rose (K.faults output.old) (K.faults output.new) → ⊥) → (result ≡ 0) ⊎ ((result ≡ 7) ⊎ WhereTold HasCauseOfRefusal (S.left input.old) (S.left input.new)) }
+    // Status 0 of `check`: the input was read to its end, it has a book, and the line of its book was written.
+    ensures checked { result ≡ 0 → IsCheck words.now → WhereTold IsChecked (both (S.left input.old) (K.written output.old)) (both (S.left input.new) (K.written output.new)) }
+    ensures checked_input { result ≡ 0 → IsCheck words.now → WhereTold IsCheckedInput (S.left input.old) (S.left input.new) }
+    // Status 1 of `check`: the input is refused, so it has no book, and the line that says why was written.
+    ensures unfit { result ≡ 1 → IsCheck words.now → WhereTold IsUnfit (both (S.left input.old) (K.written output.old)) (both (S.left input.new) (K.written output.new)) }
+    ensures unfit_input { result ≡ 1 → IsCheck words.now → WhereTold (λ input left. HasNoBook input) (S.left input.old) (S.left input.new) }
+    // Status 3 and 7 of `check`: nothing was written. Status 4: a front of the line that is due was written.
+    ensures taken { result ≡ 3 → IsCheck words.now → WhereTold Takes (S.left input.old) (S.left input.new) }
+    ensures unsaid { (result ≡ 3) ⊎ (result ≡ 7) → IsCheck words.now → K.written output.new ≡ K.written output.old }
+    ensures cut_off { result ≡ 4 → IsCheck words.now → WhereTold IsCutOff (both (S.left input.old) (K.written output.old)) (both (S.left input.new) (K.written output.new)) }
+    // Where no call failed, `check` comes to status 0 or 1, unless memory ran out.
+    ensures complete_check { IsCheck words.now → (Rose (S.faults input.old) (S.faults input.new) → ⊥) → (Rose (K.faults output.old) (K.faults output.new) → ⊥) → (result ≡ 0) ⊎ ((result ≡ 1) ⊎ (result ≡ 7)) }
 {
-    if !is_try(words) {
-        return say(output, b"usage\n", USAGE);
+    match command_of(words) {
+        Some(Command::Check) => check(alloc, input, output),
+        Some(Command::Try) => run_try(alloc, input, output),
+        None => say(output, b"usage\n", USAGE),
     }
+}
+
+// The command `try`.
+fn run_try<S: Source, K: Sink>(alloc: Global, input: &mut S, output: &mut K) -> u8
+    ensures statuses { (result ≡ 0) ⊎ ((result ≡ 1) ⊎ ((result ≡ 3) ⊎ ((result ≡ 4) ⊎ (result ≡ 7)))) }
+    ensures done { result ≡ 0 → WhereTold IsDone (both (S.left input.old) (K.written output.old)) (both (S.left input.new) (K.written output.new)) }
+    ensures done_input { result ≡ 0 → WhereTold IsRead (S.left input.old) (S.left input.new) }
+    ensures refused { result ≡ 1 → WhereTold IsRefused (both (S.left input.old) (K.written output.old)) (both (S.left input.new) (K.written output.new)) }
+    ensures refused_input { result ≡ 1 → WhereTold HasCauseOfRefusal (S.left input.old) (S.left input.new) }
+    ensures source { result ≡ 3 → Rose (S.faults input.old) (S.faults input.new) }
+    ensures stopped { result ≡ 3 → WhereTold IsStopped (both (S.left input.old) (K.written output.old)) (both (S.left input.new) (K.written output.new)) }
+    ensures sink { result ≡ 4 → Rose (K.faults output.old) (K.faults output.new) }
+    ensures sink_broken { result ≡ 4 → WhereTold IsBrokenOff (both (S.left input.old) (K.written output.old)) (both (S.left input.new) (K.written output.new)) }
+    ensures memory_broken { result ≡ 7 → WhereTold IsBrokenOff (both (S.left input.old) (K.written output.old)) (both (S.left input.new) (K.written output.new)) }
+{
     match attempt(alloc, input, output) {
         Ok(()) => DONE,
         Err(Stop::LaterForm) => say(output, b"refused: later form\n", REFUSED),
@@ -76,29 +88,5 @@ pub fn run<S: Source, K: Sink>(
         Err(Stop::Source) => SOURCE_FAILED,
         Err(Stop::Sink) => SINK_FAILED,
         Err(Stop::NoMemory) => OUT_OF_MEMORY,
-    }
-}
-
-fn is_try(words: &[Vec<u8>]) -> bool
-    ensures { IsTrue result ↔ IsTry words.now }
-{
-    match words.split_first() {
-        Some((word, rest)) => rest.is_empty() && word.as_slice() == TRY,
-        None => false,
-    }
-}
-
-// Writes a last line, and answers that status, or that the sink failed.
-fn say<K: Sink>(output: &mut K, line: &[u8], status: u8) -> u8
-    requires { status ≢ 4 }
-    ensures status { (result ≡ status) ⊎ (result ≡ 4) }
-    ensures said { result ≡ status → Gains (K.written output.old) (K.written output.new) line.now }
-    ensures broken { result ≡ 4 → WhereTold (GainsFront line.now) (K.written output.old) (K.written output.new) }
-    ensures sink { result ≡ 4 → Rose (K.faults output.old) (K.faults output.new) }
-    ensures later_sink { K.faults output.old ≤ K.faults output.new }
-{
-    match write_all(output, line) {
-        Ok(()) => status,
-        Err(_) => SINK_FAILED,
     }
 }
