@@ -4,15 +4,15 @@ use Rattle.std.specs.Prelude.{Option}
 use Rattle.std.proofs.lemmas.List.{length-append}
 use Rattle.sheet_outside.specs.Told.{WhereTold, Gains}
 use Rattle.sheet_lines.specs.Told.{Ends, both, GainsFront}
-use Rattle.sheet_reading.specs.Laws.{OneDefinition}
+use Rattle.sheet_define_reading.specs.Laws.{OneDefinition}
 use Rattle.sheet_define.specs.declared.read.DefinitionRefusal.{DefinitionRefusal}
 use Rattle.sheet_define.specs.declared.read.DefinitionRefusal.TheVariants.{TooLong, NotUtf8, Syntax}
 use Rattle.sheet_define.specs.declared.read.DefinitionRefusal.TheVariants as define
 use Rattle.sheet_define.specs.Definitions.{Defines, HasNone}
-use Rattle.sheet_typing.specs.declared.refusal.TypeRefusal.{TypeRefusal}
-use Rattle.sheet_typing.specs.declared.refusal.TypeRefusal.TheVariants.{Doubled, TooDeep, TooMany, UnknownName, Mismatch, NeedsFirst, NeedsType, DeclaredOther}
-use Rattle.sheet_typing.specs.declared.refusal.TypeRefusal.TheVariants as types
-use Rattle.sheet_typing.specs.Answers.{Answer, Answers}
+use Rattle.sheet_types_formulas.specs.declared.refusal.TypeRefusal.{TypeRefusal}
+use Rattle.sheet_types_formulas.specs.declared.refusal.TypeRefusal.TheVariants.{Doubled, TooDeep, TooMany, UnknownName, Mismatch, NeedsFirst, NeedsType, DeclaredOther}
+use Rattle.sheet_types_formulas.specs.declared.refusal.TypeRefusal.TheVariants as types
+use Rattle.sheet_types_formulas.specs.Answers.{Answer, Answers}
 use Rattle.sheet_types.specs.Elaboration.{elaborated}
 use Rattle.objsheet.specs.Refusals.{definition_line, type_line}
 use Rattle.objsheet.specs.Checking.{HasNoBook, IsGood, IsNoDefinition, IsNoBook, IsRefusedText, Judges, ReadsText, Examines, IsUnfit, IsCutOff}

@@ -3,11 +3,11 @@ use Rattle.std.specs.Prelude.{◌≡◌, ℕ, ◌≤◌, ◌⊎◌, List, [], �
 use Rattle.std.specs.Global.{Global}
 use Rattle.std.specs.Fmt.{decimal}
 use Rattle.sheet_lines.specs.Told.{Ends, GainsFront}
-use Rattle.sheet_definitions.specs.declared.definition.Definition.{Definition}
-use Rattle.sheet_definitions.specs.Grammar.{IsDefinition}
+use Rattle.sheet_define_data.specs.declared.definition.Definition.{Definition}
+use Rattle.sheet_define_data.specs.Grammar.{IsDefinition}
 use Rattle.sheet_define.specs.declared.read.DefinitionRefusal.{DefinitionRefusal}
 use Rattle.sheet_define.specs.Definitions.{Defines}
-use Rattle.sheet_typing.specs.declared.refusal.TypeRefusal.{TypeRefusal}
+use Rattle.sheet_types_formulas.specs.declared.refusal.TypeRefusal.{TypeRefusal}
 use Rattle.sheet_books.specs.declared.book.Contents.{Contents}
 use Rattle.sheet_types.specs.Elaboration.{elaborated}
 use Rattle.objsheet.specs.Trying.{IsWord, printed}

@@ -1,15 +1,15 @@
 -- The lines that say why a definition is refused. Want of memory has no line.
 use Rattle.std.specs.Prelude.{ℕ, List, ◌++◌, codes, Option, Some, None}
 use Rattle.std.specs.Fmt.{decimal}
-use Rattle.sheet_tokens.specs.declared.token.SyntaxRefusal.{SyntaxRefusal}
-use Rattle.sheet_tokens.specs.declared.token.SyntaxRefusal.TheVariants.{BadToken, NumberTooWide, Expected, TooNested}
-use Rattle.sheet_tokens.specs.declared.token.SyntaxRefusal.TheVariants as syntax
+use Rattle.sheet_syntax_trees.specs.declared.token.SyntaxRefusal.{SyntaxRefusal}
+use Rattle.sheet_syntax_trees.specs.declared.token.SyntaxRefusal.TheVariants.{BadToken, NumberTooWide, Expected, TooNested}
+use Rattle.sheet_syntax_trees.specs.declared.token.SyntaxRefusal.TheVariants as syntax
 use Rattle.sheet_define.specs.declared.read.DefinitionRefusal.{DefinitionRefusal}
 use Rattle.sheet_define.specs.declared.read.DefinitionRefusal.TheVariants.{TooLong, NotUtf8, Syntax}
 use Rattle.sheet_define.specs.declared.read.DefinitionRefusal.TheVariants as define
-use Rattle.sheet_typing.specs.declared.refusal.TypeRefusal.{TypeRefusal}
-use Rattle.sheet_typing.specs.declared.refusal.TypeRefusal.TheVariants.{Doubled, TooDeep, TooMany, UnknownName, Mismatch, NeedsFirst, NeedsType, DeclaredOther}
-use Rattle.sheet_typing.specs.declared.refusal.TypeRefusal.TheVariants as types
+use Rattle.sheet_types_formulas.specs.declared.refusal.TypeRefusal.{TypeRefusal}
+use Rattle.sheet_types_formulas.specs.declared.refusal.TypeRefusal.TheVariants.{Doubled, TooDeep, TooMany, UnknownName, Mismatch, NeedsFirst, NeedsType, DeclaredOther}
+use Rattle.sheet_types_formulas.specs.declared.refusal.TypeRefusal.TheVariants as types
 use Rattle.objsheet.specs.Trying.{printed}
 
 -- a cause, with the line of the text and the offset where it stands

@@ -3,7 +3,7 @@ ghost use Rattle.std.specs.Prelude.{◌≡◌, ◌⊎◌, ◌≤◌, IfOk, OnErr
 ghost use Rattle.sheet_outside.specs.Causes.{Rose};
 ghost use Rattle.sheet_outside.specs.Told.{WhereTold};
 ghost use Rattle.sheet_lines.specs.Told.{both};
-ghost use Rattle.sheet_outline.specs.Orderly.{IsOrderly};
+ghost use Rattle.sheet_types_outline.specs.Orderly.{IsOrderly};
 ghost use Rattle.objsheet.specs.Checking.{Judges, JudgesDefinition, Examines, Takes, IsChecked, IsCheckedInput, IsUnfit, HasNoBook, IsCutOff};
 
 use crate::phrase::{book_line, definition_line, type_line};
@@ -11,9 +11,9 @@ use crate::status::{DONE, OUT_OF_MEMORY, REFUSED, SOURCE_FAILED, say};
 use crate::verdict::Verdict;
 use crate::whole::{Unread, read_text};
 use sheet_define::{Definition, read_definition};
-use sheet_outline::texts_are_orderly;
+use sheet_types_outline::texts_are_orderly;
 use sheet_outside::{Sink, Source};
-use sheet_reading::texts_stand_for_one_definition;
+use sheet_define_reading::texts_stand_for_one_definition;
 use sheet_types::elaborate;
 use sheet_values::NoMemory;
 use std::alloc::Global;

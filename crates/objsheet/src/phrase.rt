@@ -5,7 +5,7 @@ ghost use Rattle.objsheet.specs.Checking.{book_line as line_of_book};
 
 use sheet_books::Book;
 use sheet_define::{DefinitionRefusal, SyntaxRefusal};
-use sheet_typing::TypeRefusal;
+use sheet_types_formulas::TypeRefusal;
 use sheet_values::NoMemory;
 use std::alloc::Global;
 

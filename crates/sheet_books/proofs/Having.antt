@@ -6,7 +6,7 @@ use Rattle.sheet_columns.specs.declared.tree.Column.TheVariants as column
 use Rattle.sheet_columns.specs.declared.tree.Node.{Node}
 use Rattle.sheet_columns.specs.Tree.{column_of}
 use Rattle.sheet_columns.specs.declared.formula.Core.{Core}
-use Rattle.sheet_kinds.specs.Formulas.{is_formula}
+use Rattle.sheet_types_rules.specs.Formulas.{is_formula}
 use Rattle.sheet_books.specs.Books.{IsFormulaOf, HasFormula, HaveFormulas}
 
 -- the column of that number among these columns has this, and goes with it

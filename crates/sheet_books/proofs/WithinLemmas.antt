@@ -8,9 +8,9 @@ use Rattle.sheet_columns.specs.declared.tree.Column.TheVariants as column
 use Rattle.sheet_columns.specs.declared.tree.Node.{Node}
 use Rattle.sheet_columns.specs.declared.formula.Core.{Core, Truth, Number, Text, Root, Variable, ObjectStep', StateStep', FormulaStep', Up' as UpStep', Set', Combine', Compare', Order', Arithmetic', Negate', Join', Not', Connect', If', Count', Only', Extreme', Comprehension', Sum', Quantify', Row_of-Core, end_of-Core as end, more_of-Core as more}
 use Rattle.sheet_columns.specs.Tree.{column_of, above_of, IsUnder, IsTree}
-use Rattle.sheet_kinds.specs.Kinds.{same_kind, common, has_order, objects_in}
-use Rattle.sheet_kinds.specs.Columns.{IsKindIn}
-use Rattle.sheet_kinds.specs.Formulas.{kind_in, kinds_in, provided, serves, all_common, is_under, is_object, is_state, is_formula, ◌>>◌}
+use Rattle.sheet_types_rules.specs.Kinds.{same_kind, common, has_order, objects_in}
+use Rattle.sheet_types_rules.specs.Columns.{IsKindIn}
+use Rattle.sheet_types_rules.specs.Formulas.{kind_in, kinds_in, provided, serves, all_common, is_under, is_object, is_state, is_formula, ◌>>◌}
 use Rattle.sheet_books.specs.Within.{KindsAreWithin}
 
 -- a step that gave something came from something

@@ -9,10 +9,10 @@ use Rattle.sheet_columns.specs.declared.tree.Node.{Node}
 use Rattle.sheet_columns.specs.Tree.{column_of}
 use Rattle.sheet_columns.specs.Statements.{statements_in}
 use Rattle.sheet_columns.specs.declared.formula.Core.{Core}
-use Rattle.sheet_kinds.specs.Columns.{kinds_from, home, IsHeldIn, AreKindsIn}
-use Rattle.sheet_kinds.specs.Formulas.{kind_in}
-use Rattle.sheet_kinds.specs.Statements.{suits, behind_list, numbered_list}
-use Rattle.sheet_kinds.specs.Views.{are_parts}
+use Rattle.sheet_types_rules.specs.Columns.{kinds_from, home, IsHeldIn, AreKindsIn}
+use Rattle.sheet_types_rules.specs.Formulas.{kind_in}
+use Rattle.sheet_types_rules.specs.Statements.{suits, behind_list, numbered_list}
+use Rattle.sheet_types_rules.specs.Views.{are_parts}
 use Rattle.sheet_books.specs.declared.body.Procedure.{Procedure}
 use Rattle.sheet_books.specs.declared.body.View.{View}
 use Rattle.sheet_books.specs.declared.book.Contents.{Contents}

@@ -5,8 +5,8 @@ use Rattle.sheet_values.specs.declared.value.Kind.{Kind}
 use Rattle.sheet_columns.specs.declared.tree.Node.{Node}
 use Rattle.sheet_columns.specs.declared.formula.Core.{Core}
 use Rattle.sheet_columns.specs.Tree.{IsTree}
-use Rattle.sheet_kinds.specs.Columns.{IsKindIn}
-use Rattle.sheet_kinds.specs.Formulas.{kind_in}
+use Rattle.sheet_types_rules.specs.Columns.{IsKindIn}
+use Rattle.sheet_types_rules.specs.Formulas.{kind_in}
 
 -- Where types of objects among the columns and positions are those of object columns, so is the type of each formula.
 abbrev pub KindsAreWithin : Type 0

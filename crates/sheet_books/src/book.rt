@@ -1,7 +1,7 @@
 // Books.
 ghost use Rattle.std.specs.Prelude.{◌≡◌, ◌<◌, length, Some, IfOk, IfSome, slice_get, position, bytes_eq, true};
 ghost use Rattle.sheet_columns.specs.Tree.{column_of};
-ghost use Rattle.sheet_kinds.specs.Formulas.{is_formula};
+ghost use Rattle.sheet_types_rules.specs.Formulas.{is_formula};
 ghost use Rattle.sheet_books.specs.declared.body.Procedure.{Procedure as TheProcedure};
 ghost use Rattle.sheet_books.specs.declared.body.View.{View as TheView};
 ghost use Rattle.sheet_books.specs.Books.{IsWellTyped, IsWellTypedFormula, IsWellTypedProcedure, IsWellTypedView, procedure_with_name, view_with_name};

@@ -1,22 +1,22 @@
 -- The loops of the readers.
 use Rattle.std.proofs.Common.{◌≡◌, ℕ, zero, suc, ◌+◌, ◌-◌, ◌<◌, length, List, [], ◌∷◌, ◌++◌, Some, None, Ok, Err, true, false, refl, sym, ap, ◌∙◌, arith, append_assoc, append-nil}
 use Rattle.std.specs.Prelude.{Option, Bool, if◌then◌else◌}
-use Rattle.sheet_tokens.specs.declared.token.Token.{Token}
-use Rattle.sheet_tokens.specs.declared.token.SyntaxRefusal.{SyntaxRefusal}
-use Rattle.sheet_tokens.specs.declared.token.SyntaxRefusal.TheVariants.{BadToken, NumberTooWide, Expected, TooNested, NoMemory}
-use Rattle.sheet_tokens.specs.Tokens.{Reads}
-use Rattle.sheet_trees.specs.declared.tree.Formed.{Formed}
-use Rattle.sheet_trees.specs.Reading.{Answer, ◌>>=◌, offset, or_expected, with_rest, name_of, name_at, step_of, made}
-use Rattle.sheet_trees.proofs.Answering.{name_ok}
-use Rattle.sheet_definitions.specs.declared.definition.Declaration.{Declaration}
-use Rattle.sheet_definitions.specs.declared.definition.Parameter.{Parameter}
-use Rattle.sheet_definitions.specs.declared.statement.Target.{Target}
-use Rattle.sheet_reading.specs.declared.mark.Mark.{Mark}
-use Rattle.sheet_reading.specs.declared.mark.Mark.TheVariants as mark
-use Rattle.sheet_reading.specs.Marks.{mark_of, same_mark}
-use Rattle.sheet_reading.specs.Reading as reading
-use Rattle.sheet_reading.specs.Reading.{Bounds, Reader, after, expect, alone, with_front, many, many_by, more_names, more_parameters, parameter, closed, last_step, step_by, statement_by, block, declarations, ended, turn_by, found_list, usual, whole_definition}
-use Rattle.sheet_reading.proofs.MarkLemmas.{same_self, other_mark}
+use Rattle.sheet_syntax_trees.specs.declared.token.Token.{Token}
+use Rattle.sheet_syntax_trees.specs.declared.token.SyntaxRefusal.{SyntaxRefusal}
+use Rattle.sheet_syntax_trees.specs.declared.token.SyntaxRefusal.TheVariants.{BadToken, NumberTooWide, Expected, TooNested, NoMemory}
+use Rattle.sheet_syntax_trees.specs.Tokens.{Reads}
+use Rattle.sheet_syntax_trees.specs.declared.tree.Formed.{Formed}
+use Rattle.sheet_syntax_trees.specs.Reading.{Answer, ◌>>=◌, offset, or_expected, with_rest, name_of, name_at, step_of, made}
+use Rattle.sheet_syntax_trees.proofs.Answering.{name_ok}
+use Rattle.sheet_define_data.specs.declared.definition.Declaration.{Declaration}
+use Rattle.sheet_define_data.specs.declared.definition.Parameter.{Parameter}
+use Rattle.sheet_define_data.specs.declared.statement.Target.{Target}
+use Rattle.sheet_define_reading.specs.declared.mark.Mark.{Mark}
+use Rattle.sheet_define_reading.specs.declared.mark.Mark.TheVariants as mark
+use Rattle.sheet_define_reading.specs.Marks.{mark_of, same_mark}
+use Rattle.sheet_define_reading.specs.Reading as reading
+use Rattle.sheet_define_reading.specs.Reading.{Bounds, Reader, after, expect, alone, with_front, many, many_by, more_names, more_parameters, parameter, closed, last_step, step_by, statement_by, block, declarations, ended, turn_by, found_list, usual, whole_definition}
+use Rattle.sheet_define_reading.proofs.MarkLemmas.{same_self, other_mark}
 
 -- a refusal is passed on
 pub passed : {X Y Z W : Type 0} (view : X → Y) (other : Z → W) (e : SyntaxRefusal) (told : Answer Y) (whole : Answer W) → Reads view (Err e) told → ((d : SyntaxRefusal) → told ≡ Err d → whole ≡ Err d) → Reads other (Err e) whole

@@ -4,14 +4,14 @@ use Rattle.std.specs.Prelude.{IsUtf8}
 use Rattle.std.specs.Str.{IsValidUpTo}
 use Rattle.std.proofs.Math.Seq.{take-append_seam}
 use Rattle.std.proofs.lemmas.Str.{IsUtf8-from_is_utf8, is_utf8-from_IsUtf8}
-use Rattle.sheet_tokens.specs.declared.token.SyntaxRefusal.{SyntaxRefusal}
-use Rattle.sheet_tokens.specs.declared.token.SyntaxRefusal.TheVariants.{BadToken, NumberTooWide, Expected, TooNested}
-use Rattle.sheet_tokens.specs.declared.token.SyntaxRefusal.TheVariants as syntax
-use Rattle.sheet_tokens.specs.Tokens.{Reads}
-use Rattle.sheet_definitions.specs.declared.definition.Definition.{Definition}
-use Rattle.sheet_reading.specs.Reading.{definition_read}
-use Rattle.sheet_reading.proofs.Texts.{text_stands, text_none}
-use Rattle.sheet_beginnings.proofs.Texts.{refused_at_the_first, refused_for_nesting}
+use Rattle.sheet_syntax_trees.specs.declared.token.SyntaxRefusal.{SyntaxRefusal}
+use Rattle.sheet_syntax_trees.specs.declared.token.SyntaxRefusal.TheVariants.{BadToken, NumberTooWide, Expected, TooNested}
+use Rattle.sheet_syntax_trees.specs.declared.token.SyntaxRefusal.TheVariants as syntax
+use Rattle.sheet_syntax_trees.specs.Tokens.{Reads}
+use Rattle.sheet_define_data.specs.declared.definition.Definition.{Definition}
+use Rattle.sheet_define_reading.specs.Reading.{definition_read}
+use Rattle.sheet_define_reading.proofs.Texts.{text_stands, text_none}
+use Rattle.sheet_define_refusals.proofs.Texts.{refused_at_the_first, refused_for_nesting}
 use Rattle.sheet_define.specs.declared.read.DefinitionRefusal.{DefinitionRefusal}
 use Rattle.sheet_define.specs.declared.read.DefinitionRefusal.TheVariants.{Syntax}
 use Rattle.sheet_define.specs.Definitions.{HasNone, Defines, Placed, line_at}

@@ -1,15 +1,15 @@
 -- The definitions of texts.
 use Rattle.std.specs.Prelude.{◌≡◌, ℕ, ◌<◌, ◌+◌, ◌==◌, ◌≤◌, List, length, take, count_by, Result, Ok, Err, IsUtf8}
 use Rattle.std.specs.Str.{IsValidUpTo}
-use Rattle.sheet_tokens.specs.declared.token.Token.{Token}
-use Rattle.sheet_tokens.specs.declared.token.SyntaxRefusal.{SyntaxRefusal}
-use Rattle.sheet_tokens.specs.declared.token.SyntaxRefusal.TheVariants.{BadToken, NumberTooWide, Expected, TooNested}
-use Rattle.sheet_tokens.specs.declared.token.SyntaxRefusal.TheVariants as syntax
-use Rattle.sheet_tokens.specs.Tokens.{lexed}
-use Rattle.sheet_definitions.specs.declared.definition.Definition.{Definition}
-use Rattle.sheet_definitions.specs.Grammar.{IsDefinition}
-use Rattle.sheet_reading.specs.Reading.{definition_read}
-use Rattle.sheet_beginnings.specs.Refusals.{IsFirstOfDefinition, IsFirstTooNested}
+use Rattle.sheet_syntax_trees.specs.declared.token.Token.{Token}
+use Rattle.sheet_syntax_trees.specs.declared.token.SyntaxRefusal.{SyntaxRefusal}
+use Rattle.sheet_syntax_trees.specs.declared.token.SyntaxRefusal.TheVariants.{BadToken, NumberTooWide, Expected, TooNested}
+use Rattle.sheet_syntax_trees.specs.declared.token.SyntaxRefusal.TheVariants as syntax
+use Rattle.sheet_syntax_trees.specs.Tokens.{lexed}
+use Rattle.sheet_define_data.specs.declared.definition.Definition.{Definition}
+use Rattle.sheet_define_data.specs.Grammar.{IsDefinition}
+use Rattle.sheet_define_reading.specs.Reading.{definition_read}
+use Rattle.sheet_define_refusals.specs.Refusals.{IsFirstOfDefinition, IsFirstTooNested}
 use Rattle.sheet_define.specs.declared.read.DefinitionRefusal.{DefinitionRefusal}
 use Rattle.sheet_define.specs.declared.read.DefinitionRefusal.TheVariants.{TooLong, NotUtf8, Syntax, NoMemory}
 

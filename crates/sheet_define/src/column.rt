@@ -1,17 +1,17 @@
 // Columns, behind the word that begins them.
 ghost use Rattle.std.specs.Prelude.{◌≡◌};
-ghost use Rattle.sheet_tokens.specs.Tokens.{Reads};
-ghost use Rattle.sheet_reading.specs.Reading.{usual, optional, one_or, after as tokens_after, type_at as type_of_tokens, literal_at as literal_of_tokens, state_behind as state_behind_one, object_column as object_of_tokens, state_column as state_of_tokens, formula_column as formula_of_tokens};
+ghost use Rattle.sheet_syntax_trees.specs.Tokens.{Reads};
+ghost use Rattle.sheet_define_reading.specs.Reading.{usual, optional, one_or, after as tokens_after, type_at as type_of_tokens, literal_at as literal_of_tokens, state_behind as state_behind_one, object_column as object_of_tokens, state_column as state_of_tokens, formula_column as formula_of_tokens};
 
 use crate::front::{after, expect, formula};
 use crate::types::{literal_at, type_at};
-use sheet_definitions::{Column, Content, Literal, TypeName};
-use sheet_reading::Mark;
+use sheet_define_data::{Column, Content, Literal, TypeName};
+use sheet_define_reading::Mark;
 use sheet_syntax::{SyntaxRefusal, Token, name_at};
 use sheet_values::Name;
 use std::alloc::Global;
 
-#[tactic(auto, unfolding(sheet_reading::specs::Reading::object_column))]
+#[tactic(auto, unfolding(sheet_define_reading::specs::Reading::object_column))]
 pub(crate) fn object_column<'a>(
     depth: u32,
     word: &Token,
@@ -76,7 +76,7 @@ fn state_behind<'a>(
     Ok((column, rest))
 }
 
-#[tactic(auto, unfolding(sheet_reading::specs::Reading::state_column))]
+#[tactic(auto, unfolding(sheet_define_reading::specs::Reading::state_column))]
 pub(crate) fn state_column<'a>(
     alloc: Global,
     depth: u32,
@@ -109,7 +109,7 @@ fn declared<'a>(
     }
 }
 
-#[tactic(auto, unfolding(sheet_reading::specs::Reading::formula_column))]
+#[tactic(auto, unfolding(sheet_define_reading::specs::Reading::formula_column))]
 pub(crate) fn formula_column<'a>(
     alloc: Global,
     depth: u32,

@@ -1,7 +1,7 @@
 // The declarations of a definition.
 ghost use Rattle.std.specs.Prelude.{◌≡◌, ◌+◌, ◌++◌, suc, OnOk};
-ghost use Rattle.sheet_tokens.specs.Tokens.{Reads};
-ghost use Rattle.sheet_reading.specs.Reading.{usual, procedure as procedure_of_tokens, column_found, object_column as object_of_tokens, turn_by as turn_of_mark, outermost_by as outermost_of_mark, ended as ended_of_tokens, all_before, found_list, whole_definition};
+ghost use Rattle.sheet_syntax_trees.specs.Tokens.{Reads};
+ghost use Rattle.sheet_define_reading.specs.Reading.{usual, procedure as procedure_of_tokens, column_found, object_column as object_of_tokens, turn_by as turn_of_mark, outermost_by as outermost_of_mark, ended as ended_of_tokens, all_before, found_list, whole_definition};
 
 use crate::column::{formula_column, object_column, state_column};
 use crate::front::allow;
@@ -9,8 +9,8 @@ use crate::parameter::parameters;
 use crate::statement::block;
 use crate::types::path;
 use crate::view::view;
-use sheet_definitions::{Declaration, Procedure};
-use sheet_reading::{Mark, mark_of};
+use sheet_define_data::{Declaration, Procedure};
+use sheet_define_reading::{Mark, mark_of};
 use sheet_syntax::{SyntaxRefusal, Token, name_at, offset};
 use sqlite_items::Items;
 use std::alloc::{AllocError, Global};
@@ -18,7 +18,7 @@ use std::alloc::{AllocError, Global};
 // How many blocks of statements may be open.
 const OPEN_BLOCKS: u32 = 16;
 
-#[tactic(auto, unfolding(sheet_reading::specs::Reading::procedure))]
+#[tactic(auto, unfolding(sheet_define_reading::specs::Reading::procedure))]
 fn procedure<'a>(
     alloc: Global,
     word: &Token,
@@ -66,7 +66,7 @@ fn opening<'a>(
 }
 
 // A declaration that stands in no object column, and begins with a token of that mark.
-#[tactic(auto, unfolding(sheet_reading::specs::Reading::outermost_by))]
+#[tactic(auto, unfolding(sheet_define_reading::specs::Reading::outermost_by))]
 fn outermost<'a>(
     alloc: Global,
     mark: Mark,
@@ -95,7 +95,7 @@ fn outermost<'a>(
 }
 
 // One turn, at a token of that mark, where so many object columns are open.
-#[tactic(auto, unfolding(sheet_reading::specs::Reading::turn_by))]
+#[tactic(auto, unfolding(sheet_define_reading::specs::Reading::turn_by))]
 fn turn<'a>(
     alloc: Global,
     open: u32,

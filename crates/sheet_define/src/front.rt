@@ -1,9 +1,9 @@
 // What stands at the front of tokens.
 ghost use Rattle.std.specs.Prelude.{◌≡◌, ◌∷◌, option_map};
-ghost use Rattle.sheet_tokens.specs.Tokens.{Reads};
-ghost use Rattle.sheet_reading.specs.Reading.{usual, mark_at as mark_of_first, after as tokens_after, expect as expected, formula as formula_of_tokens, text_at as text_of_first, alone as alone_of_tokens, optional};
+ghost use Rattle.sheet_syntax_trees.specs.Tokens.{Reads};
+ghost use Rattle.sheet_define_reading.specs.Reading.{usual, mark_at as mark_of_first, after as tokens_after, expect as expected, formula as formula_of_tokens, text_at as text_of_first, alone as alone_of_tokens, optional};
 
-use sheet_reading::{Mark, mark_of};
+use sheet_define_reading::{Mark, mark_of};
 use sheet_syntax::{SyntaxRefusal, Token, TokenKind, Tree, formula_at, offset};
 use sheet_values::Name;
 use std::alloc::Global;
@@ -37,7 +37,7 @@ pub(crate) fn expect(end: usize, mark: Mark, rest: &[Token]) -> Result<&[Token],
     }
 }
 
-#[tactic(auto, unfolding(sheet_reading::specs::Reading::text_at))]
+#[tactic(auto, unfolding(sheet_define_reading::specs::Reading::text_at))]
 pub(crate) fn text_at(end: usize, rest: &[Token]) -> Result<(Name, &[Token]), SyntaxRefusal>
     ensures { Reads (λ x. (x.0, x.1.now)) result (text_of_first end rest.now) }
 {
@@ -67,7 +67,7 @@ pub(crate) fn alone(rest: &[Token]) -> Option<(&Name, &[Token])>
     }
 }
 
-#[tactic(auto, unfolding(sheet_reading::specs::Reading::formula))]
+#[tactic(auto, unfolding(sheet_define_reading::specs::Reading::formula))]
 pub(crate) fn formula<'a>(
     alloc: Global,
     rest: &'a [Token],

@@ -12,12 +12,12 @@ mod types;
 mod view;
 
 pub use read::{DefinitionRefusal, read_definition};
-pub use sheet_definitions::{
+pub use sheet_define_data::{
     Column, Content, Declaration, Definition, Literal, Parameter, Part, Path, Procedure, Show,
     Statement, Target, TypeName, View,
 };
-pub use sheet_layout::print_definition;
-pub use sheet_lengths::printed_length;
+pub use sheet_define_print::print_definition;
+pub use sheet_define_length::printed_length;
 pub use sheet_syntax::SyntaxRefusal;
 
 #[cfg(test)]

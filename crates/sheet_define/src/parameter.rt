@@ -1,12 +1,12 @@
 // Parameters.
 ghost use Rattle.std.specs.Prelude.{◌≡◌, ◌∷◌, []};
-ghost use Rattle.sheet_tokens.specs.Tokens.{Reads};
-ghost use Rattle.sheet_reading.specs.Reading.{usual, with_front, closed as closed_of_tokens, parameter as parameter_of_tokens, more_parameters as parameters_behind, parameters as parameters_of_tokens};
+ghost use Rattle.sheet_syntax_trees.specs.Tokens.{Reads};
+ghost use Rattle.sheet_define_reading.specs.Reading.{usual, with_front, closed as closed_of_tokens, parameter as parameter_of_tokens, more_parameters as parameters_behind, parameters as parameters_of_tokens};
 
 use crate::front::{after, expect};
 use crate::types::type_at;
-use sheet_definitions::Parameter;
-use sheet_reading::Mark;
+use sheet_define_data::Parameter;
+use sheet_define_reading::Mark;
 use sheet_syntax::{SyntaxRefusal, Token, line_of, name_at};
 use sqlite_items::Items;
 use std::alloc::Global;
@@ -14,7 +14,7 @@ use std::alloc::Global;
 // How many parameters may stand behind the first one.
 const MOST_OTHERS: usize = 15;
 
-#[tactic(auto, unfolding(sheet_reading::specs::Reading::parameter))]
+#[tactic(auto, unfolding(sheet_define_reading::specs::Reading::parameter))]
 fn parameter<'a>(
     alloc: Global,
     rest: &'a [Token],
@@ -69,7 +69,7 @@ fn more_parameters<'a>(
 }
 
 /// The parameters in parentheses, at most 16.
-#[tactic(auto, unfolding(sheet_reading::specs::Reading::parameters))]
+#[tactic(auto, unfolding(sheet_define_reading::specs::Reading::parameters))]
 pub(crate) fn parameters<'a>(
     alloc: Global,
     rest: &'a [Token],

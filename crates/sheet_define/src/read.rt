@@ -1,11 +1,11 @@
 // Definitions of texts.
 ghost use Rattle.std.specs.Prelude.{◌≡◌, ◌≤◌, ◌+◌, length, Ok};
-ghost use Rattle.sheet_tokens.specs.Tokens.{Reads};
-ghost use Rattle.sheet_reading.specs.Reading.{definition_read};
+ghost use Rattle.sheet_syntax_trees.specs.Tokens.{Reads};
+ghost use Rattle.sheet_define_reading.specs.Reading.{definition_read};
 ghost use Rattle.sheet_define.specs.Definitions.{line_at as line_of_offset, Defines, Placed};
 
 use crate::declaration::declarations;
-use sheet_definitions::Definition;
+use sheet_define_data::Definition;
 use sheet_syntax::{SyntaxRefusal, lex};
 use std::alloc::Global;
 use std::str;

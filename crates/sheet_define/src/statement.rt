@@ -1,17 +1,17 @@
 // Statements, behind the word that begins them, and blocks of them.
 ghost use Rattle.std.specs.Prelude.{◌≡◌, length};
-ghost use Rattle.sheet_tokens.specs.Tokens.{Reads};
-ghost use Rattle.sheet_reading.specs.Reading.{usual, after as tokens_after, many, block as block_of_tokens, statement_by as statement_of_mark, otherwise as otherwise_of_tokens, let_statement as let_of_tokens, set_statement as set_of_tokens, add_statement as add_of_tokens, remove_statement as remove_of_tokens, new_statement as new_of_tokens, delete_statement as delete_of_tokens, check_statement as check_of_tokens, reply_statement as reply_of_tokens, if_statement as if_of_tokens, for_statement as for_of_tokens};
+ghost use Rattle.sheet_syntax_trees.specs.Tokens.{Reads};
+ghost use Rattle.sheet_define_reading.specs.Reading.{usual, after as tokens_after, many, block as block_of_tokens, statement_by as statement_of_mark, otherwise as otherwise_of_tokens, let_statement as let_of_tokens, set_statement as set_of_tokens, add_statement as add_of_tokens, remove_statement as remove_of_tokens, new_statement as new_of_tokens, delete_statement as delete_of_tokens, check_statement as check_of_tokens, reply_statement as reply_of_tokens, if_statement as if_of_tokens, for_statement as for_of_tokens};
 
 use crate::front::{after, expect, formula, text_at};
 use crate::target::target;
-use sheet_definitions::Statement;
-use sheet_reading::{Mark, mark_of};
+use sheet_define_data::Statement;
+use sheet_define_reading::{Mark, mark_of};
 use sheet_syntax::{SyntaxRefusal, Token, Tree, name_at, offset};
 use sqlite_items::Items;
 use std::alloc::Global;
 
-#[tactic(auto, unfolding(sheet_reading::specs::Reading::let_statement))]
+#[tactic(auto, unfolding(sheet_define_reading::specs::Reading::let_statement))]
 fn let_statement<'a>(
     alloc: Global,
     word: &Token,
@@ -27,7 +27,7 @@ fn let_statement<'a>(
     Ok((Statement::Let { line, name, value }, rest))
 }
 
-#[tactic(auto, unfolding(sheet_reading::specs::Reading::set_statement))]
+#[tactic(auto, unfolding(sheet_define_reading::specs::Reading::set_statement))]
 fn set_statement<'a>(
     alloc: Global,
     word: &Token,
@@ -50,7 +50,7 @@ fn set_statement<'a>(
     ))
 }
 
-#[tactic(auto, unfolding(sheet_reading::specs::Reading::add_statement))]
+#[tactic(auto, unfolding(sheet_define_reading::specs::Reading::add_statement))]
 fn add_statement<'a>(
     alloc: Global,
     word: &Token,
@@ -73,7 +73,7 @@ fn add_statement<'a>(
     ))
 }
 
-#[tactic(auto, unfolding(sheet_reading::specs::Reading::remove_statement))]
+#[tactic(auto, unfolding(sheet_define_reading::specs::Reading::remove_statement))]
 fn remove_statement<'a>(
     alloc: Global,
     word: &Token,
@@ -96,7 +96,7 @@ fn remove_statement<'a>(
     ))
 }
 
-#[tactic(auto, unfolding(sheet_reading::specs::Reading::new_statement))]
+#[tactic(auto, unfolding(sheet_define_reading::specs::Reading::new_statement))]
 fn new_statement<'a>(
     alloc: Global,
     word: &Token,
@@ -112,7 +112,7 @@ fn new_statement<'a>(
     Ok((Statement::New { line, name, target }, rest))
 }
 
-#[tactic(auto, unfolding(sheet_reading::specs::Reading::delete_statement))]
+#[tactic(auto, unfolding(sheet_define_reading::specs::Reading::delete_statement))]
 fn delete_statement<'a>(
     alloc: Global,
     word: &Token,
@@ -126,7 +126,7 @@ fn delete_statement<'a>(
     Ok((Statement::Delete { line, objects }, rest))
 }
 
-#[tactic(auto, unfolding(sheet_reading::specs::Reading::check_statement))]
+#[tactic(auto, unfolding(sheet_define_reading::specs::Reading::check_statement))]
 fn check_statement<'a>(
     alloc: Global,
     word: &Token,
@@ -149,7 +149,7 @@ fn check_statement<'a>(
     ))
 }
 
-#[tactic(auto, unfolding(sheet_reading::specs::Reading::reply_statement))]
+#[tactic(auto, unfolding(sheet_define_reading::specs::Reading::reply_statement))]
 fn reply_statement<'a>(
     alloc: Global,
     word: &Token,
@@ -202,7 +202,7 @@ fn otherwise<'a>(
 }
 
 #[cycle(statements)]
-#[tactic(auto, unfolding(sheet_reading::specs::Reading::if_statement))]
+#[tactic(auto, unfolding(sheet_define_reading::specs::Reading::if_statement))]
 fn if_statement<'a>(
     alloc: Global,
     word: &Token,
@@ -218,7 +218,7 @@ fn if_statement<'a>(
 }
 
 #[cycle(statements)]
-#[tactic(auto, unfolding(sheet_reading::specs::Reading::for_statement))]
+#[tactic(auto, unfolding(sheet_define_reading::specs::Reading::for_statement))]
 fn for_statement<'a>(
     alloc: Global,
     word: &Token,
@@ -246,7 +246,7 @@ fn for_statement<'a>(
 
 // The statement that begins with a token of that mark.
 #[cycle(statements)]
-#[tactic(auto, unfolding(sheet_reading::specs::Reading::statement_by))]
+#[tactic(auto, unfolding(sheet_define_reading::specs::Reading::statement_by))]
 fn statement<'a>(
     alloc: Global,
     mark: Mark,

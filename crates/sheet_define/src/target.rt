@@ -1,11 +1,11 @@
 // Targets.
 ghost use Rattle.std.specs.Prelude.{◌≡◌, length};
-ghost use Rattle.sheet_tokens.specs.Tokens.{Reads};
-ghost use Rattle.sheet_reading.specs.Reading.{usual, last_step as last_of_steps, target as target_of_tokens};
+ghost use Rattle.sheet_syntax_trees.specs.Tokens.{Reads};
+ghost use Rattle.sheet_define_reading.specs.Reading.{usual, last_step as last_of_steps, target as target_of_tokens};
 
 use crate::front::{alone, expect};
-use sheet_definitions::Target;
-use sheet_reading::Mark;
+use sheet_define_data::Target;
+use sheet_define_reading::Mark;
 use sheet_syntax::{Formed, SyntaxRefusal, Token, atom_at, line_of, made, offset, step};
 use std::alloc::Global;
 
@@ -56,7 +56,7 @@ fn last_step<'a>(
     Err(SyntaxRefusal::Expected(offset(text_length, remaining)))
 }
 
-#[tactic(auto, unfolding(sheet_reading::specs::Reading::target))]
+#[tactic(auto, unfolding(sheet_define_reading::specs::Reading::target))]
 pub(crate) fn target<'a>(
     alloc: Global,
     rest: &'a [Token],

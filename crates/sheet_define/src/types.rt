@@ -1,11 +1,11 @@
 // Paths, types and first values.
 ghost use Rattle.std.specs.Prelude.{◌≡◌, ◌∷◌, Ok};
-ghost use Rattle.sheet_tokens.specs.Tokens.{Reads};
-ghost use Rattle.sheet_reading.specs.Reading.{usual, with_front, more_names as names_behind, path as path_of_tokens, type_at as type_of_tokens, literal_of, negative as negative_of_tokens, literal_at as literal_of_tokens};
+ghost use Rattle.sheet_syntax_trees.specs.Tokens.{Reads};
+ghost use Rattle.sheet_define_reading.specs.Reading.{usual, with_front, more_names as names_behind, path as path_of_tokens, type_at as type_of_tokens, literal_of, negative as negative_of_tokens, literal_at as literal_of_tokens};
 
 use crate::front::{after, mark_at};
-use sheet_definitions::{Literal, Path, TypeName};
-use sheet_reading::{Mark, mark_of};
+use sheet_define_data::{Literal, Path, TypeName};
+use sheet_define_reading::{Mark, mark_of};
 use sheet_syntax::{SyntaxRefusal, Token, TokenKind, line_of, name_at};
 use sheet_values::Name;
 use sqlite_items::Items;
@@ -31,7 +31,7 @@ fn more_names<'a>(
     Ok(remaining)
 }
 
-#[tactic(auto, unfolding(sheet_reading::specs::Reading::path))]
+#[tactic(auto, unfolding(sheet_define_reading::specs::Reading::path))]
 pub(crate) fn path<'a>(
     alloc: Global,
     rest: &'a [Token],
@@ -47,7 +47,7 @@ pub(crate) fn path<'a>(
     Ok((Path { line, names }, rest))
 }
 
-#[tactic(auto, unfolding(sheet_reading::specs::Reading::type_at))]
+#[tactic(auto, unfolding(sheet_define_reading::specs::Reading::type_at))]
 pub(crate) fn type_at<'a>(
     alloc: Global,
     rest: &'a [Token],
@@ -89,7 +89,7 @@ fn literal(token: &Token) -> Result<Option<Literal>, SyntaxRefusal>
 }
 
 // The number behind a minus sign.
-#[tactic(auto, unfolding(sheet_reading::specs::Reading::negative))]
+#[tactic(auto, unfolding(sheet_define_reading::specs::Reading::negative))]
 fn negative<'a>(
     sign: &Token,
     rest: &'a [Token],
@@ -106,7 +106,7 @@ fn negative<'a>(
     }
 }
 
-#[tactic(auto, unfolding(sheet_reading::specs::Reading::literal_at))]
+#[tactic(auto, unfolding(sheet_define_reading::specs::Reading::literal_at))]
 pub(crate) fn literal_at(rest: &[Token], end: usize) -> Result<(Literal, &[Token]), SyntaxRefusal>
     ensures { Reads (λ x. (x.0, x.1.now)) result (literal_of_tokens (usual end) rest.now) }
 {

@@ -1,17 +1,17 @@
 // Views, behind the word that begins them.
 ghost use Rattle.std.specs.Prelude.{◌≡◌, length};
-ghost use Rattle.sheet_tokens.specs.Tokens.{Reads};
-ghost use Rattle.sheet_reading.specs.Reading.{usual, many, show as show_of_tokens, show_by as show_of_mark, table as table_of_tokens, part_by as part_of_mark, view as view_of_tokens};
+ghost use Rattle.sheet_syntax_trees.specs.Tokens.{Reads};
+ghost use Rattle.sheet_define_reading.specs.Reading.{usual, many, show as show_of_tokens, show_by as show_of_mark, table as table_of_tokens, part_by as part_of_mark, view as view_of_tokens};
 
 use crate::front::{allow, expect, formula};
 use crate::parameter::parameters;
-use sheet_definitions::{Part, Show, View};
-use sheet_reading::{Mark, mark_of};
+use sheet_define_data::{Part, Show, View};
+use sheet_define_reading::{Mark, mark_of};
 use sheet_syntax::{SyntaxRefusal, Token, name_at, offset};
 use sqlite_items::Items;
 use std::alloc::Global;
 
-#[tactic(auto, unfolding(sheet_reading::specs::Reading::show))]
+#[tactic(auto, unfolding(sheet_define_reading::specs::Reading::show))]
 fn show<'a>(
     alloc: Global,
     word: &Token,
@@ -28,7 +28,7 @@ fn show<'a>(
 }
 
 // The show that begins with a token of that mark.
-#[tactic(auto, unfolding(sheet_reading::specs::Reading::show_by))]
+#[tactic(auto, unfolding(sheet_define_reading::specs::Reading::show_by))]
 fn show_by<'a>(
     alloc: Global,
     mark: Mark,
@@ -72,7 +72,7 @@ fn shows<'a>(
     Err(SyntaxRefusal::Expected(offset(text_length, remaining)))
 }
 
-#[tactic(auto, unfolding(sheet_reading::specs::Reading::table))]
+#[tactic(auto, unfolding(sheet_define_reading::specs::Reading::table))]
 fn table<'a>(
     alloc: Global,
     word: &Token,
@@ -102,7 +102,7 @@ fn table<'a>(
 }
 
 // The part that begins with a token of that mark.
-#[tactic(auto, unfolding(sheet_reading::specs::Reading::part_by))]
+#[tactic(auto, unfolding(sheet_define_reading::specs::Reading::part_by))]
 fn part_by<'a>(
     alloc: Global,
     mark: Mark,
@@ -150,7 +150,7 @@ fn parts<'a>(
     Err(SyntaxRefusal::Expected(offset(text_length, remaining)))
 }
 
-#[tactic(auto, unfolding(sheet_reading::specs::Reading::view))]
+#[tactic(auto, unfolding(sheet_define_reading::specs::Reading::view))]
 pub(crate) fn view<'a>(
     alloc: Global,
     word: &Token,

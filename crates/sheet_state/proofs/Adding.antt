@@ -10,9 +10,9 @@ use Rattle.sheet_values.specs.Sorted.{contains as holds}
 use Rattle.sheet_values.specs.Order.{value_cmp}
 use Rattle.sheet_values.specs.declared.value.Value.{Value}
 use Rattle.sheet_values.specs.declared.value.Value.TheVariants.{Object}
-use Rattle.sheet_references.specs.Below.{has}
-use Rattle.sheet_references.proofs.Inserted.{value_is}
-use Rattle.sheet_references.proofs.Numbers.{ties}
+use Rattle.sheet_state_references.specs.Below.{has}
+use Rattle.sheet_state_references.proofs.Inserted.{value_is}
+use Rattle.sheet_state_references.proofs.Numbers.{ties}
 use Rattle.sheet_state.specs.Places.{Fits, Adds, OfAny}
 
 -- none came

@@ -17,8 +17,8 @@ use Rattle.sheet_columns.specs.Tree.{is_number}
 use Rattle.sheet_columns.specs.declared.tree.Column.{Column}
 use Rattle.sheet_columns.specs.declared.tree.Column.TheVariants as column
 use Rattle.sheet_columns.specs.declared.tree.Node.{Node}
-use Rattle.sheet_objects.specs.declared.row.ObjectRow.{ObjectRow}
-use Rattle.sheet_objects.specs.declared.row.SetRow.{SetRow}
+use Rattle.sheet_state_rows.specs.declared.row.ObjectRow.{ObjectRow}
+use Rattle.sheet_state_rows.specs.declared.row.SetRow.{SetRow}
 use Rattle.sheet_meaning.specs.Changes.{with_object, first_set}
 use Rattle.sheet_meaning.specs.Workbook.{set_in, children_in, is_child, formula_cell, cells_of, formula_cells}
 use Rattle.sheet_meaning.specs.WellFormed.{StateColumn, as_state, state_columns, state_cells, stored_values, cell_count}

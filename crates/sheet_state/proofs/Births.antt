@@ -10,7 +10,7 @@ use Rattle.sheet_columns.specs.Tree.{is_number, root}
 use Rattle.sheet_columns.specs.declared.item.Item.{Item}
 use Rattle.sheet_columns.specs.declared.tree.Column.{Column}
 use Rattle.sheet_columns.specs.declared.tree.Node.{Node}
-use Rattle.sheet_objects.specs.Rows.{Table}
+use Rattle.sheet_state_rows.specs.Rows.{Table}
 use Rattle.sheet_meaning.specs.WellFormed.{StateColumn, as_state, state_columns}
 use Rattle.sheet_state.specs.Births.{child_at, state_at, extent_at, formula_at, is_formula, formula_columns, new_cell, new_extent, item_of, with_items, with_rows}
 use Rattle.sheet_state.specs.Kept.{schema_of, as_extent, object_columns}

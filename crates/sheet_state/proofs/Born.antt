@@ -16,10 +16,10 @@ use Rattle.sheet_values.specs.declared.value.Value.TheVariants.{Object}
 use Rattle.sheet_columns.specs.Tree.{above_of, column_of, IsTree}
 use Rattle.sheet_columns.specs.declared.tree.Column.TheVariants as column
 use Rattle.sheet_columns.specs.declared.tree.Node.{Node}
-use Rattle.sheet_objects.specs.Rows.{Table}
-use Rattle.sheet_objects.specs.declared.row.Counters.{Counters}
-use Rattle.sheet_objects.specs.declared.row.ObjectRow.{ObjectRow}
-use Rattle.sheet_objects.specs.declared.row.SetRow.{SetRow}
+use Rattle.sheet_state_rows.specs.Rows.{Table}
+use Rattle.sheet_state_rows.specs.declared.row.Counters.{Counters}
+use Rattle.sheet_state_rows.specs.declared.row.ObjectRow.{ObjectRow}
+use Rattle.sheet_state_rows.specs.declared.row.SetRow.{SetRow}
 use Rattle.sheet_meaning.specs.Changes.{with_object}
 use Rattle.sheet_meaning.specs.Workbook.{object_at, column_in, set_in, children_in}
 use Rattle.sheet_meaning.specs.WellFormed.{StateColumn, state_columns, stored_values, cell_count, IsWellFormed}

@@ -4,9 +4,9 @@ use Rattle.std.specs.Prelude.{filter, map, if◌then◌else◌, Some, None}
 use Rattle.std.specs.List.{cons_option}
 use Rattle.std.specs.Cmp.{IsTotalOrder, on_total, then_total, nat_cmp_total}
 use Rattle.sheet_values.proofs.Merging.{filter_rising}
-use Rattle.sheet_objects.specs.Rows.{Table, only_live}
-use Rattle.sheet_objects.specs.declared.row.ObjectRow.{ObjectRow}
-use Rattle.sheet_objects.specs.declared.row.SetRow.{SetRow}
+use Rattle.sheet_state_rows.specs.Rows.{Table, only_live}
+use Rattle.sheet_state_rows.specs.declared.row.ObjectRow.{ObjectRow}
+use Rattle.sheet_state_rows.specs.declared.row.SetRow.{SetRow}
 use Rattle.sheet_meaning.specs.Workbook.{set_in, children_in}
 use Rattle.sheet_meaning.specs.WellFormed.{stored_values}
 use Rattle.sheet_meaning.specs.declared.workbook.StoredCell.{StoredCell}

@@ -12,14 +12,14 @@ use Rattle.sheet_values.specs.Sets.{contains, minus}
 use Rattle.sheet_values.specs.declared.value.Value.{Value}
 use Rattle.sheet_values.specs.declared.value.Value.TheVariants.{Object}
 use Rattle.sheet_columns.specs.declared.tree.Node.{Node}
-use Rattle.sheet_objects.specs.Rows.{Table, set_row}
-use Rattle.sheet_objects.specs.declared.row.ObjectRow.{ObjectRow}
-use Rattle.sheet_objects.specs.declared.row.SetRow.{SetRow}
+use Rattle.sheet_state_rows.specs.Rows.{Table, set_row}
+use Rattle.sheet_state_rows.specs.declared.row.ObjectRow.{ObjectRow}
+use Rattle.sheet_state_rows.specs.declared.row.SetRow.{SetRow}
 use Rattle.sheet_meaning.specs.Changes.{has_number, has_parent_in}
 use Rattle.sheet_meaning.specs.Workbook.{object_at}
 use Rattle.sheet_meaning.proofs.Members.{both_true}
-use Rattle.sheet_references.specs.Below.{has, IsFamily}
-use Rattle.sheet_references.specs.declared.references.Reference.{Reference}
+use Rattle.sheet_state_references.specs.Below.{has, IsFamily}
+use Rattle.sheet_state_references.specs.declared.references.Reference.{Reference}
 use Rattle.sheet_state.specs.Deaths.{is_doomed, buried, swept}
 use Rattle.sheet_state.specs.Kept.{IsMoment}
 use Rattle.sheet_state.specs.Places.{Fits, Adds, OfAny, IsRowOf, IsOwnRow, RefersTo, IsHomeOf, Covers, IsListedRow, IsListed}

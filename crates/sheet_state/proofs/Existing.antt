@@ -9,7 +9,7 @@ use Rattle.sheet_columns.specs.declared.tree.Column.TheVariants as column
 use Rattle.sheet_columns.specs.declared.tree.Node.{Node}
 use Rattle.sheet_values.specs.declared.value.Kind.{Kind}
 use Rattle.sheet_values.specs.declared.value.Value.{Value}
-use Rattle.sheet_objects.specs.declared.row.SetRow.{SetRow}
+use Rattle.sheet_state_rows.specs.declared.row.SetRow.{SetRow}
 use Rattle.sheet_meaning.specs.Workbook.{object_at}
 use Rattle.sheet_meaning.specs.WellFormed.{StateColumn, as_state, state_columns, state_cells, HoldsKind}
 use Rattle.sheet_meaning.specs.declared.workbook.LiveObject.{LiveObject}

@@ -8,8 +8,8 @@ use Rattle.sheet_values.specs.Sets.{contains, minus}
 use Rattle.sheet_values.specs.declared.value.Value.{Value}
 use Rattle.sheet_values.specs.declared.value.Value.TheVariants.{Object}
 use Rattle.sheet_columns.specs.Tree.{is_number}
-use Rattle.sheet_objects.specs.declared.row.ObjectRow.{ObjectRow}
-use Rattle.sheet_objects.specs.declared.row.SetRow.{SetRow}
+use Rattle.sheet_state_rows.specs.declared.row.ObjectRow.{ObjectRow}
+use Rattle.sheet_state_rows.specs.declared.row.SetRow.{SetRow}
 use Rattle.sheet_meaning.specs.Changes.{has_number, has_parent_in, is_other}
 use Rattle.sheet_meaning.specs.Workbook.{children_in, is_child, set_in}
 use Rattle.sheet_meaning.specs.WellFormed.{stored_values}

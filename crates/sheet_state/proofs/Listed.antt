@@ -13,14 +13,14 @@ use Rattle.sheet_values.specs.declared.value.Value.TheVariants.{Truth, Number, T
 use Rattle.sheet_columns.specs.Tree.{IsOfKind, HasFittingFirst, IsTree}
 use Rattle.sheet_columns.specs.declared.tree.Column.TheVariants as column
 use Rattle.sheet_columns.specs.declared.tree.Node.{Node}
-use Rattle.sheet_objects.specs.Rows.{Table, only_live}
-use Rattle.sheet_objects.specs.declared.row.SetRow.{SetRow}
+use Rattle.sheet_state_rows.specs.Rows.{Table, only_live}
+use Rattle.sheet_state_rows.specs.declared.row.SetRow.{SetRow}
 use Rattle.sheet_meaning.specs.Changes.{first_set}
 use Rattle.sheet_meaning.specs.WellFormed.{StateColumn, state_columns}
 use Rattle.sheet_meaning.proofs.Members.{IsIn, any_in}
-use Rattle.sheet_references.specs.Order.{reference_cmp, holds_reference, is_held}
-use Rattle.sheet_references.specs.declared.references.Reference.{Reference}
-use Rattle.sheet_references.proofs.Between.{stays}
+use Rattle.sheet_state_references.specs.Order.{reference_cmp, holds_reference, is_held}
+use Rattle.sheet_state_references.specs.declared.references.Reference.{Reference}
+use Rattle.sheet_state_references.proofs.Between.{stays}
 use Rattle.sheet_state.specs.Births.{new_cell}
 use Rattle.sheet_state.specs.Deaths.{swept}
 use Rattle.sheet_state.specs.Kept.{schema_of}

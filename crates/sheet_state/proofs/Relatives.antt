@@ -5,15 +5,15 @@ use Rattle.sheet_values.specs.Sets.{contains}
 use Rattle.sheet_values.specs.declared.value.Value.{Value}
 use Rattle.sheet_values.specs.declared.value.Value.TheVariants.{Truth, Number, Text, Object}
 use Rattle.sheet_columns.specs.declared.tree.Node.{Node}
-use Rattle.sheet_objects.specs.Rows.{Table}
+use Rattle.sheet_state_rows.specs.Rows.{Table}
 use Rattle.sheet_meaning.specs.Changes.{has_number, has_parent_in, family, is_other}
 use Rattle.sheet_meaning.specs.Workbook.{object_at}
 use Rattle.sheet_meaning.specs.WellFormed.{IsUnder}
 use Rattle.sheet_meaning.specs.declared.workbook.LiveObject.{LiveObject}
 use Rattle.sheet_meaning.proofs.Members.{IsIn}
-use Rattle.sheet_references.specs.Below.{Descends, GoesDown, IsFamily}
-use Rattle.sheet_references.proofs.Descending.{has_parent, all_reached}
-use Rattle.sheet_references.proofs.Descending as below
+use Rattle.sheet_state_references.specs.Below.{Descends, GoesDown, IsFamily}
+use Rattle.sheet_state_references.proofs.Descending.{has_parent, all_reached}
+use Rattle.sheet_state_references.proofs.Descending as below
 use Rattle.sheet_state.specs.Kept.{book, IsMoment}
 use Rattle.sheet_state.specs.Places.{AreSmall}
 use Rattle.sheet_state.specs.Rows.{objects_in, state_of, moment, IsSound}

@@ -11,8 +11,8 @@ use Rattle.std.specs.FinMap.{nat_cmp-IsAntisymmetric}
 use Rattle.std.proofs.lemmas.Bool.{eqb-true, cases_lt}
 use Rattle.std.proofs.lemmas.Iterator.Adapters.{position_from-zero}
 use Rattle.sheet_values.specs.Sorted.{IsBelow, IsRising}
-use Rattle.sheet_objects.specs.declared.row.ObjectRow.{ObjectRow}
-use Rattle.sheet_objects.specs.declared.row.SetRow.{SetRow}
+use Rattle.sheet_state_rows.specs.declared.row.ObjectRow.{ObjectRow}
+use Rattle.sheet_state_rows.specs.declared.row.SetRow.{SetRow}
 use Rattle.sheet_state.specs.Rows.{object_cmp, row_cmp, is_object, is_set}
 use Rattle.sheet_state.proofs.Without.{nat_less}
 

@@ -9,11 +9,11 @@ use Rattle.std.proofs.lemmas.Bool.{eqb-true}
 use Rattle.std.proofs.lemmas.List.Sums.{sum_by-cons}
 use Rattle.sheet_values.specs.Sorted.{IsBelow, IsRising}
 use Rattle.sheet_values.specs.declared.value.Value.{Value}
-use Rattle.sheet_objects.specs.declared.row.SetRow.{SetRow}
+use Rattle.sheet_state_rows.specs.declared.row.SetRow.{SetRow}
 use Rattle.sheet_meaning.specs.WellFormed.{stored_values}
 use Rattle.sheet_meaning.specs.declared.workbook.StoredCell.{StoredCell}
 use Rattle.sheet_state.specs.Rows.{live_cell, cells_in, row_cmp, is_set}
-use Rattle.sheet_objects.specs.Rows.{set_row}
+use Rattle.sheet_state_rows.specs.Rows.{set_row}
 use Rattle.sheet_state.specs.Births.{live_row, set_at}
 use Rattle.sheet_state.proofs.Lookups.{FirstAt, first_passes, first_read}
 

@@ -5,8 +5,8 @@ use Rattle.std.proofs.lemmas.Bool.{le-ltb, lt-ltb}
 use Rattle.sheet_values.specs.declared.value.Value.{Value}
 use Rattle.sheet_columns.specs.Tree.{column_of, above_of}
 use Rattle.sheet_columns.specs.declared.tree.Node.{Node}
-use Rattle.sheet_objects.specs.Rows.{Table, with_cells, with_counters}
-use Rattle.sheet_objects.specs.declared.row.SetRow.{SetRow}
+use Rattle.sheet_state_rows.specs.Rows.{Table, with_cells, with_counters}
+use Rattle.sheet_state_rows.specs.declared.row.SetRow.{SetRow}
 use Rattle.sheet_meaning.specs.Changes.{with_set}
 use Rattle.sheet_meaning.specs.Workbook.{set_in, object_at, column_in}
 use Rattle.sheet_meaning.specs.WellFormed.{HoldsKind, IsWellFormed, stored_values, max_objects, max_cells, max_values, max_number}

@@ -6,10 +6,10 @@ use Rattle.std.proofs.lemmas.List.{append-nil, length-map}
 use Rattle.sheet_values.specs.declared.value.Value.TheVariants.{Object}
 use Rattle.sheet_columns.specs.Tree.{column_of, IsTree}
 use Rattle.sheet_columns.specs.declared.tree.Node.{Node}
-use Rattle.sheet_objects.specs.Rows.{Table}
-use Rattle.sheet_objects.specs.declared.row.Counters.{Counters}
-use Rattle.sheet_objects.specs.declared.row.ObjectRow.{ObjectRow}
-use Rattle.sheet_objects.specs.declared.row.SetRow.{SetRow}
+use Rattle.sheet_state_rows.specs.Rows.{Table}
+use Rattle.sheet_state_rows.specs.declared.row.Counters.{Counters}
+use Rattle.sheet_state_rows.specs.declared.row.ObjectRow.{ObjectRow}
+use Rattle.sheet_state_rows.specs.declared.row.SetRow.{SetRow}
 use Rattle.sheet_meaning.specs.Workbook.{set_in, children_in, cells_of}
 use Rattle.sheet_meaning.specs.WellFormed.{StateColumn, state_columns, stored_values, cell_count, HoldsKind, IsWellFormed}
 use Rattle.sheet_meaning.specs.declared.workbook.LiveObject.{LiveObject}

@@ -8,16 +8,16 @@ use Rattle.std.proofs.lemmas.Bool.{eqb-true}
 use Rattle.std.proofs.lemmas.List.{take_more, take_all, drop_all, append-nil, set-get_or}
 use Rattle.std.proofs.lemmas.List.Sums.{fold-append, sum_by-cons}
 use Rattle.std.specs.Prelude.{◌==◌, ◌||◌}
-use Rattle.sheet_references.specs.Below.{has}
-use Rattle.sheet_references.proofs.Numbers.{ties}
+use Rattle.sheet_state_references.specs.Below.{has}
+use Rattle.sheet_state_references.proofs.Numbers.{ties}
 use Rattle.sheet_values.specs.Sets.{contains}
 use Rattle.sheet_values.specs.declared.value.Value.{Value}
 use Rattle.sheet_values.specs.declared.value.Value.TheVariants.{Object}
 use Rattle.sheet_columns.specs.declared.item.Item.{Item}
 use Rattle.sheet_columns.specs.declared.item.Item.TheVariants.{Live, Extent, Stored}
 use Rattle.sheet_columns.specs.declared.tree.Node.{Node}
-use Rattle.sheet_objects.specs.declared.row.ObjectRow.{ObjectRow}
-use Rattle.sheet_objects.specs.declared.row.SetRow.{SetRow}
+use Rattle.sheet_state_rows.specs.declared.row.ObjectRow.{ObjectRow}
+use Rattle.sheet_state_rows.specs.declared.row.SetRow.{SetRow}
 use Rattle.sheet_meaning.specs.WellFormed.{state_columns}
 use Rattle.sheet_meaning.proofs.Members.{both_true}
 use Rattle.sheet_state.specs.Births.{with_items, formula_columns}

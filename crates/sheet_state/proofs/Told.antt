@@ -14,9 +14,9 @@ use Rattle.sheet_columns.specs.ItemOrder.{item_cmp}
 use Rattle.sheet_columns.specs.declared.item.Item.{Item}
 use Rattle.sheet_columns.specs.declared.item.Item.TheVariants.{Live, Up, Extent, Stored}
 use Rattle.sheet_columns.specs.declared.tree.Node.{Node}
-use Rattle.sheet_objects.specs.Rows.{Table}
-use Rattle.sheet_objects.specs.declared.row.ObjectRow.{ObjectRow}
-use Rattle.sheet_objects.specs.declared.row.SetRow.{SetRow}
+use Rattle.sheet_state_rows.specs.Rows.{Table}
+use Rattle.sheet_state_rows.specs.declared.row.ObjectRow.{ObjectRow}
+use Rattle.sheet_state_rows.specs.declared.row.SetRow.{SetRow}
 use Rattle.sheet_meaning.specs.Changes.{has_number, family, without_object}
 use Rattle.sheet_meaning.specs.Formula.{sets_equal}
 use Rattle.sheet_meaning.specs.Items.{numbers_equal}

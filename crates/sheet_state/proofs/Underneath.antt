@@ -12,16 +12,16 @@ use Rattle.sheet_values.specs.Order.{value_cmp}
 use Rattle.sheet_values.specs.Sets.{contains}
 use Rattle.sheet_values.specs.declared.value.Value.TheVariants.{Object}
 use Rattle.sheet_columns.specs.Tree.{is_number}
-use Rattle.sheet_objects.specs.Rows.{Table, set_row}
-use Rattle.sheet_objects.specs.declared.row.ObjectRow.{ObjectRow}
-use Rattle.sheet_objects.specs.declared.row.SetRow.{SetRow}
+use Rattle.sheet_state_rows.specs.Rows.{Table, set_row}
+use Rattle.sheet_state_rows.specs.declared.row.ObjectRow.{ObjectRow}
+use Rattle.sheet_state_rows.specs.declared.row.SetRow.{SetRow}
 use Rattle.sheet_meaning.specs.Changes.{has_number}
 use Rattle.sheet_meaning.specs.Workbook.{object_at, children_in, is_child, set_in}
 use Rattle.sheet_meaning.specs.declared.workbook.LiveObject.{LiveObject}
 use Rattle.sheet_meaning.proofs.Members.{IsIn, both_true}
-use Rattle.sheet_references.specs.Below.{NeverFalls, holds_under, stands_under}
-use Rattle.sheet_references.proofs.Inserted.{value_is}
-use Rattle.sheet_references.proofs.Numbers.{ties}
+use Rattle.sheet_state_references.specs.Below.{NeverFalls, holds_under, stands_under}
+use Rattle.sheet_state_references.proofs.Inserted.{value_is}
+use Rattle.sheet_state_references.proofs.Numbers.{ties}
 use Rattle.sheet_state.specs.Rows.{is_object, is_set, objects_in, cells_in, object_cmp, row_cmp, IsSound}
 use Rattle.sheet_state.proofs.Lookups.{first_at, first_read, set_found, set_first, set_skip}
 use Rattle.sheet_state.proofs.Searching.{found, objects_follow, rows_follow, object_tests, set_tests}

@@ -5,12 +5,12 @@ use Rattle.sheet_values.specs.Sorted.{contains as holds}
 use Rattle.sheet_values.specs.Sets.{contains}
 use Rattle.sheet_values.specs.declared.value.Value.{Value}
 use Rattle.sheet_values.specs.declared.value.Value.TheVariants.{Object}
-use Rattle.sheet_objects.specs.Rows.{Table, set_row}
-use Rattle.sheet_objects.specs.declared.row.ObjectRow.{ObjectRow}
-use Rattle.sheet_objects.specs.declared.row.SetRow.{SetRow}
-use Rattle.sheet_references.specs.Below.{has}
-use Rattle.sheet_references.specs.Order.{reference_cmp}
-use Rattle.sheet_references.specs.declared.references.Reference.{Reference}
+use Rattle.sheet_state_rows.specs.Rows.{Table, set_row}
+use Rattle.sheet_state_rows.specs.declared.row.ObjectRow.{ObjectRow}
+use Rattle.sheet_state_rows.specs.declared.row.SetRow.{SetRow}
+use Rattle.sheet_state_references.specs.Below.{has}
+use Rattle.sheet_state_references.specs.Order.{reference_cmp}
+use Rattle.sheet_state_references.specs.declared.references.Reference.{Reference}
 use Rattle.sheet_meaning.specs.Workbook.{object_at}
 use Rattle.sheet_meaning.specs.declared.workbook.LiveObject.{LiveObject}
 use Rattle.sheet_state.specs.Rows.{is_object, is_set, objects_in}

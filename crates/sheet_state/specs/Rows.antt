@@ -4,9 +4,9 @@ use Rattle.std.specs.List.{filter_map, AllByRecursion}
 use Rattle.std.specs.declared.cmp.Ordering.{Ordering}
 use Rattle.std.specs.Ordering.{nat_cmp, on, then_cmp}
 use Rattle.sheet_values.specs.Sorted.{IsRising}
-use Rattle.sheet_objects.specs.Rows.{Table}
-use Rattle.sheet_objects.specs.declared.row.ObjectRow.{ObjectRow}
-use Rattle.sheet_objects.specs.declared.row.SetRow.{SetRow}
+use Rattle.sheet_state_rows.specs.Rows.{Table}
+use Rattle.sheet_state_rows.specs.declared.row.ObjectRow.{ObjectRow}
+use Rattle.sheet_state_rows.specs.declared.row.SetRow.{SetRow}
 use Rattle.sheet_meaning.specs.Workbook.{set_in, children_in}
 use Rattle.sheet_meaning.specs.WellFormed.{stored_values}
 use Rattle.sheet_meaning.specs.declared.workbook.LiveObject.{LiveObject}

@@ -9,7 +9,7 @@ ghost use Rattle.sheet_state.specs.Births.{child_at, state_at, extent_at, formul
 ghost use Rattle.sheet_state.specs.Kept.{schema_of, object_columns};
 
 use sheet_columns::{Column, Columns, Item, Items};
-use sheet_objects::{SetRow, Tables};
+use sheet_state_rows::{SetRow, Tables};
 use sheet_values::{NoMemory, Set, Value};
 use std::alloc::Global;
 

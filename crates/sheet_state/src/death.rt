@@ -3,7 +3,7 @@ ghost use Rattle.std.specs.Prelude.{◌≡◌, ◌+◌, ◌-◌, ◌<◌, ◌≤
 ghost use Rattle.std.specs.List.{flat_map};
 ghost use Rattle.sheet_values.specs.Sets.{minus};
 ghost use Rattle.sheet_columns.specs.declared.item.Item.TheVariants.{Extent, Stored};
-ghost use Rattle.sheet_objects.specs.Rows.{with_objects, with_cells, with_extents};
+ghost use Rattle.sheet_state_rows.specs.Rows.{with_objects, with_cells, with_extents};
 ghost use Rattle.sheet_state.specs.Births.{with_items};
 ghost use Rattle.sheet_state.specs.Places.{Covers};
 ghost use Rattle.sheet_state.specs.Deaths.{object_row, set_row, buried, swept, lost, buried_items, swept_items, lost_cells, lost_objects, rid_of, rid_items};
@@ -11,7 +11,7 @@ ghost use Rattle.sheet_state.specs.Deaths.{object_row, set_row, buried, swept, l
 use crate::birth::weight_of;
 use crate::places::Places;
 use sheet_columns::{Columns, Item, Items};
-use sheet_objects::{Counters, ObjectRow, SetRow, Tables};
+use sheet_state_rows::{Counters, ObjectRow, SetRow, Tables};
 use sheet_values::{NoMemory, Set, Value};
 use std::alloc::Global;
 use std::collections::BTreeSet;

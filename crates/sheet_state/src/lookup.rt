@@ -3,7 +3,7 @@ ghost use Rattle.std.specs.Prelude.{◌≡◌, position};
 ghost use Rattle.sheet_values.specs.Sorted.{IsRising};
 ghost use Rattle.sheet_state.specs.Rows.{is_object, is_set, object_cmp, row_cmp};
 
-use sheet_objects::{ObjectRow, SetRow};
+use sheet_state_rows::{ObjectRow, SetRow};
 
 /// The place of the row of a live object.
 pub fn object_place(rows: &[ObjectRow], object: u64) -> Option<usize>

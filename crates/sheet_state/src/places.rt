@@ -5,15 +5,15 @@ ghost use Rattle.sheet_values.specs.Sets.{contains};
 ghost use Rattle.sheet_values.specs.declared.value.Value.TheVariants.{Object};
 ghost use Rattle.sheet_columns.specs.declared.tree.Node.{Node};
 ghost use Rattle.sheet_meaning.specs.Workbook.{object_at};
-ghost use Rattle.sheet_references.specs.Below.{has, NeverFalls, IsFamily};
+ghost use Rattle.sheet_state_references.specs.Below.{has, NeverFalls, IsFamily};
 ghost use Rattle.sheet_state.specs.Deaths.{buried, swept};
 ghost use Rattle.sheet_state.specs.Kept.{IsMoment};
 ghost use Rattle.sheet_state.specs.Places.{Adds, OfAny, IsRowOf, IsOwnRow, RefersTo, IsHomeOf, Covers, IsListed, AreSmall};
 ghost use Rattle.sheet_state.specs.Rows.{object_cmp, row_cmp, is_set, objects_in, moment, IsSound};
 
 use crate::lookup::{object_place, set_place};
-use sheet_objects::{ObjectRow, SetRow, Tables};
-use sheet_references::{References, own_places};
+use sheet_state_rows::{ObjectRow, SetRow, Tables};
+use sheet_state_references::{References, own_places};
 use sheet_values::{NoMemory, Set, Value};
 use std::alloc::Global;
 use std::collections::BTreeSet;

@@ -1,21 +1,21 @@
 -- The loops over operators, and over the parts of a set.
 use Rattle.std.proofs.Common.{◌≡◌, ℕ, zero, suc, ◌+◌, ◌-◌, ◌<◌, max, List, [], ◌∷◌, ◌++◌, length, Some, None, Ok, Err, true, false, refl, sym, ap, ◌∙◌, arith}
 use Rattle.std.specs.Prelude.{Bool, if◌then◌else◌}
-use Rattle.sheet_tokens.specs.declared.token.Token.{Token}
-use Rattle.sheet_tokens.specs.declared.token.SyntaxRefusal.{SyntaxRefusal}
-use Rattle.sheet_tokens.specs.declared.token.SyntaxRefusal.TheVariants.{Expected}
-use Rattle.sheet_trees.specs.declared.sign.Sign.{Sign}
-use Rattle.sheet_trees.specs.declared.sign.Sign.TheVariants as sign
-use Rattle.sheet_trees.specs.declared.operators.Operator.{Operator}
-use Rattle.sheet_trees.specs.declared.operators.Level.{Level}
-use Rattle.sheet_trees.specs.declared.operators.Level.TheVariants as level
-use Rattle.sheet_trees.specs.declared.tree.Tree.{Tree}
-use Rattle.sheet_trees.specs.declared.tree.Tree.TheVariants as tree
-use Rattle.sheet_trees.specs.declared.tree.Formed.{Formed}
-use Rattle.sheet_trees.specs.Signs.{sign_of, same_sign}
-use Rattle.sheet_trees.specs.Operators.{operator_among, repeats}
-use Rattle.sheet_trees.specs.Reading.{Answer, Reader, ◌>>=◌, Setting, offset, line_of, after, expect, or_expected, with_rest, made, operation, operand_behind, go_on, more, chain, chain_at, operand_at, products, sums, sets, comparison, conjunction, disjunction, parts, parts_by}
-use Rattle.sheet_trees.proofs.SignLemmas.{same_is}
+use Rattle.sheet_syntax_trees.specs.declared.token.Token.{Token}
+use Rattle.sheet_syntax_trees.specs.declared.token.SyntaxRefusal.{SyntaxRefusal}
+use Rattle.sheet_syntax_trees.specs.declared.token.SyntaxRefusal.TheVariants.{Expected}
+use Rattle.sheet_syntax_trees.specs.declared.sign.Sign.{Sign}
+use Rattle.sheet_syntax_trees.specs.declared.sign.Sign.TheVariants as sign
+use Rattle.sheet_syntax_trees.specs.declared.operators.Operator.{Operator}
+use Rattle.sheet_syntax_trees.specs.declared.operators.Level.{Level}
+use Rattle.sheet_syntax_trees.specs.declared.operators.Level.TheVariants as level
+use Rattle.sheet_syntax_trees.specs.declared.tree.Tree.{Tree}
+use Rattle.sheet_syntax_trees.specs.declared.tree.Tree.TheVariants as tree
+use Rattle.sheet_syntax_trees.specs.declared.tree.Formed.{Formed}
+use Rattle.sheet_syntax_trees.specs.Signs.{sign_of, same_sign}
+use Rattle.sheet_syntax_trees.specs.Operators.{operator_among, repeats}
+use Rattle.sheet_syntax_trees.specs.Reading.{Answer, Reader, ◌>>=◌, Setting, offset, line_of, after, expect, or_expected, with_rest, made, operation, operand_behind, go_on, more, chain, chain_at, operand_at, products, sums, sets, comparison, conjunction, disjunction, parts, parts_by}
+use Rattle.sheet_syntax_trees.proofs.SignLemmas.{same_is}
 use Rattle.sheet_syntax.proofs.Loops.{after_none, after_some}
 
 chain_at_is : (s : Setting) (l : Level) (ts : List Token) → chain_at s l ts ≡ chain s l (operand_at s l) ts

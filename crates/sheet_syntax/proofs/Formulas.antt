@@ -3,23 +3,23 @@ use Rattle.std.proofs.Common.{Bor, append_assoc, ◌≡◌, ℕ, ◌+◌, ◌-�
 use Rattle.std.specs.Prelude.{Result, IfOk}
 use Rattle.std.proofs.lemmas.List.{take-append-drop}
 use Rattle.std.proofs.Math.Seq.{take-append_seam, drop-append_seam}
-use Rattle.sheet_tokens.specs.declared.token.Token.{Token}
-use Rattle.sheet_tokens.specs.declared.token.SyntaxRefusal.{SyntaxRefusal}
-use Rattle.sheet_tokens.specs.declared.token.SyntaxRefusal.TheVariants.{BadToken, NumberTooWide, Expected, TooNested, NoMemory}
-use Rattle.sheet_tokens.specs.TokenList.{TokenList}
-use Rattle.sheet_tokens.specs.Tokens.{Reads, lexed}
-use Rattle.sheet_trees.specs.declared.tree.Tree.{Tree}
-use Rattle.sheet_trees.specs.declared.tree.Formed.{Formed}
-use Rattle.sheet_trees.specs.Grammar.{IsFormula, Produces, form, expression}
-use Rattle.sheet_trees.specs.Reading.{Answer, ◌>>=◌, formula_at, nothing_behind, whole_formula, within}
-use Rattle.sheet_trees.proofs.Answering.{ok_then}
-use Rattle.sheet_trees.proofs.Soundness.{Stands, within_sound, whole_sound}
-use Rattle.sheet_trees.proofs.Completeness.{read_whole, whole_given}
-use Rattle.sheet_trees.proofs.Locality.{blocked, taken}
-use Rattle.sheet_trees.proofs.Refusing.{first, first_at, nested, nested_at}
-use Rattle.sheet_tokens.proofs.Ordered.{lexed_order, order_drop}
-use Rattle.sheet_trees.specs.Refusals.{IsBlocked}
-use Rattle.sheet_trees.specs.Texts.{StandsFor}
+use Rattle.sheet_syntax_trees.specs.declared.token.Token.{Token}
+use Rattle.sheet_syntax_trees.specs.declared.token.SyntaxRefusal.{SyntaxRefusal}
+use Rattle.sheet_syntax_trees.specs.declared.token.SyntaxRefusal.TheVariants.{BadToken, NumberTooWide, Expected, TooNested, NoMemory}
+use Rattle.sheet_syntax_trees.specs.TokenList.{TokenList}
+use Rattle.sheet_syntax_trees.specs.Tokens.{Reads, lexed}
+use Rattle.sheet_syntax_trees.specs.declared.tree.Tree.{Tree}
+use Rattle.sheet_syntax_trees.specs.declared.tree.Formed.{Formed}
+use Rattle.sheet_syntax_trees.specs.Grammar.{IsFormula, Produces, form, expression}
+use Rattle.sheet_syntax_trees.specs.Reading.{Answer, ◌>>=◌, formula_at, nothing_behind, whole_formula, within}
+use Rattle.sheet_syntax_trees.proofs.Answering.{ok_then}
+use Rattle.sheet_syntax_trees.proofs.Soundness.{Stands, within_sound, whole_sound}
+use Rattle.sheet_syntax_trees.proofs.Completeness.{read_whole, whole_given}
+use Rattle.sheet_syntax_trees.proofs.Locality.{blocked, taken}
+use Rattle.sheet_syntax_trees.proofs.Refusing.{first, first_at, nested, nested_at}
+use Rattle.sheet_syntax_trees.proofs.Ordered.{lexed_order, order_drop}
+use Rattle.sheet_syntax_trees.specs.Refusals.{IsBlocked}
+use Rattle.sheet_syntax_trees.specs.Texts.{StandsFor}
 use Rattle.sheet_syntax.specs.Formulas.{Parses, parsed, parsed_at, ParsesAt}
 
 apart : {A : Type 0} (x : A) (d : SyntaxRefusal) → ◌≡◌ {A = Answer A} (Ok x) (Err d) → ⊥

@@ -1,20 +1,20 @@
 -- The ifs that wait for their parts.
 use Rattle.std.proofs.Common.{◌≡◌, ℕ, ◌+◌, ◌-◌, ◌<◌, ◌≤◌, List, [], ◌∷◌, ◌++◌, length, Ok, Err, refl, sym, ap, ◌∙◌, subst, arith, length-append}
-use Rattle.sheet_tokens.specs.declared.token.Token.{Token}
-use Rattle.sheet_tokens.specs.declared.token.SyntaxRefusal.{SyntaxRefusal}
-use Rattle.sheet_tokens.specs.declared.token.SyntaxRefusal.TheVariants.{BadToken, NumberTooWide, Expected, TooNested, NoMemory}
-use Rattle.sheet_trees.specs.declared.sign.Sign.TheVariants as sign
-use Rattle.sheet_trees.specs.declared.operators.Level.TheVariants as level
-use Rattle.sheet_trees.specs.declared.tree.Formed.{Formed}
-use Rattle.sheet_trees.specs.Signs.{sign_of}
-use Rattle.sheet_trees.specs.Reading.{Answer, ◌>>=◌, setting, offset, sign_at, expect, with_rest, within, chosen, chain_at, disjunction}
-use Rattle.sheet_trees.proofs.Soundness.{disjunction_sound, within_sound}
+use Rattle.sheet_syntax_trees.specs.declared.token.Token.{Token}
+use Rattle.sheet_syntax_trees.specs.declared.token.SyntaxRefusal.{SyntaxRefusal}
+use Rattle.sheet_syntax_trees.specs.declared.token.SyntaxRefusal.TheVariants.{BadToken, NumberTooWide, Expected, TooNested, NoMemory}
+use Rattle.sheet_syntax_trees.specs.declared.sign.Sign.TheVariants as sign
+use Rattle.sheet_syntax_trees.specs.declared.operators.Level.TheVariants as level
+use Rattle.sheet_syntax_trees.specs.declared.tree.Formed.{Formed}
+use Rattle.sheet_syntax_trees.specs.Signs.{sign_of}
+use Rattle.sheet_syntax_trees.specs.Reading.{Answer, ◌>>=◌, setting, offset, sign_at, expect, with_rest, within, chosen, chain_at, disjunction}
+use Rattle.sheet_syntax_trees.proofs.Soundness.{disjunction_sound, within_sound}
 use Rattle.sheet_syntax.specs.declared.waiting.Parts.TheVariants.{Nothing, Condition, Branch}
 use Rattle.sheet_syntax.specs.declared.waiting.OpenIf.{OpenIf}
 use Rattle.sheet_syntax.specs.declared.parser.Room.{Room}
 use Rattle.sheet_syntax.specs.declared.waiting.Resumed.{Resumed}
 use Rattle.sheet_syntax.specs.declared.waiting.Resumed.TheVariants.{Whole}
-use Rattle.sheet_tokens.specs.Tokens.{Reads}
+use Rattle.sheet_syntax_trees.specs.Tokens.{Reads}
 use Rattle.sheet_syntax.specs.Waiting.{Resumes, chosen_form, behind_branch, behind_condition, goes_on_by, goes_on, resumed_by}
 use Rattle.sheet_syntax.proofs.Turns.{other_sign, turn_if, turn_or, turn_none, turn_over}
 

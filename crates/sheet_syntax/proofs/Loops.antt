@@ -1,17 +1,17 @@
 -- The loops of the readers.
 use Rattle.std.proofs.Common.{◌≡◌, ℕ, length, zero, suc, ◌+◌, take, drop, arith, List, [], ◌∷◌, ◌++◌, Some, None, Ok, Err, true, false, refl, sym, ap, ◌∙◌}
 use Rattle.std.specs.Prelude.{Bool, if◌then◌else◌}
-use Rattle.sheet_tokens.specs.declared.token.Token.{Token}
-use Rattle.sheet_tokens.specs.declared.token.SyntaxRefusal.{SyntaxRefusal}
-use Rattle.sheet_tokens.specs.declared.token.SyntaxRefusal.TheVariants.{BadToken, NumberTooWide, Expected, TooNested, NoMemory}
-use Rattle.sheet_tokens.specs.Tokens.{Reads}
-use Rattle.sheet_trees.specs.declared.sign.Sign.{Sign}
-use Rattle.sheet_trees.specs.declared.sign.Sign.TheVariants as sign
-use Rattle.sheet_trees.specs.declared.operators.Prefix.{Prefix}
-use Rattle.sheet_trees.specs.declared.tree.Formed.{Formed}
-use Rattle.sheet_trees.specs.Signs.{sign_of, same_sign}
-use Rattle.sheet_trees.specs.Operators.{prefix_sign, prefixed}
-use Rattle.sheet_trees.specs.Reading.{Answer, ◌>>=◌, after, or_expected, step_of, made, steps, prefixes, behind_prefixes, under_prefixes}
+use Rattle.sheet_syntax_trees.specs.declared.token.Token.{Token}
+use Rattle.sheet_syntax_trees.specs.declared.token.SyntaxRefusal.{SyntaxRefusal}
+use Rattle.sheet_syntax_trees.specs.declared.token.SyntaxRefusal.TheVariants.{BadToken, NumberTooWide, Expected, TooNested, NoMemory}
+use Rattle.sheet_syntax_trees.specs.Tokens.{Reads}
+use Rattle.sheet_syntax_trees.specs.declared.sign.Sign.{Sign}
+use Rattle.sheet_syntax_trees.specs.declared.sign.Sign.TheVariants as sign
+use Rattle.sheet_syntax_trees.specs.declared.operators.Prefix.{Prefix}
+use Rattle.sheet_syntax_trees.specs.declared.tree.Formed.{Formed}
+use Rattle.sheet_syntax_trees.specs.Signs.{sign_of, same_sign}
+use Rattle.sheet_syntax_trees.specs.Operators.{prefix_sign, prefixed}
+use Rattle.sheet_syntax_trees.specs.Reading.{Answer, ◌>>=◌, after, or_expected, step_of, made, steps, prefixes, behind_prefixes, under_prefixes}
 
 cond_none : (b : Bool) (ts : List Token) → (if b then Some ts else None) ≡ None → b ≡ false
 cond_none true ts e = let wrong : ⊥ = cc in absurd wrong

@@ -1,13 +1,13 @@
 -- Turns of the reader of expressions.
 use Rattle.std.proofs.Common.{◌≡◌, ℕ, zero, suc, ◌-◌, ◌<◌, List, [], ◌∷◌, Err, false, refl, ◌∙◌, arith, inl, inr}
 use Rattle.std.proofs.lemmas.Bool.{cases_Bool}
-use Rattle.sheet_tokens.specs.declared.token.Token.{Token}
-use Rattle.sheet_tokens.specs.declared.token.SyntaxRefusal.TheVariants.{Expected}
-use Rattle.sheet_trees.specs.declared.sign.Sign.{Sign}
-use Rattle.sheet_trees.specs.declared.sign.Sign.TheVariants as sign
-use Rattle.sheet_trees.proofs.SignLemmas.{same_is}
-use Rattle.sheet_trees.specs.Signs.{sign_of, same_sign}
-use Rattle.sheet_trees.specs.Reading.{offset, setting, within, expression, chosen, disjunction}
+use Rattle.sheet_syntax_trees.specs.declared.token.Token.{Token}
+use Rattle.sheet_syntax_trees.specs.declared.token.SyntaxRefusal.TheVariants.{Expected}
+use Rattle.sheet_syntax_trees.specs.declared.sign.Sign.{Sign}
+use Rattle.sheet_syntax_trees.specs.declared.sign.Sign.TheVariants as sign
+use Rattle.sheet_syntax_trees.proofs.SignLemmas.{same_is}
+use Rattle.sheet_syntax_trees.specs.Signs.{sign_of, same_sign}
+use Rattle.sheet_syntax_trees.specs.Reading.{offset, setting, within, expression, chosen, disjunction}
 
 pub turn_over : (limit end turns room : ℕ) (ts : List Token) → turns ≡ 0 → within limit end turns room ts ≡ Err (Expected (offset end ts))
 unfolding within

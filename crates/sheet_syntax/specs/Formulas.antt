@@ -1,16 +1,16 @@
 -- The formulas of texts.
 use Rattle.std.specs.Prelude.{◌≡◌, ℕ, ◌-◌, ◌≤◌, List, ◌∷◌, length, take, drop, Result, Ok, Err}
-use Rattle.sheet_tokens.specs.declared.token.Token.{Token}
-use Rattle.sheet_tokens.specs.declared.token.SyntaxRefusal.{SyntaxRefusal}
-use Rattle.sheet_tokens.specs.declared.token.SyntaxRefusal.TheVariants.{BadToken, NumberTooWide, Expected, TooNested, NoMemory}
-use Rattle.sheet_tokens.specs.TokenList.{TokenList}
-use Rattle.sheet_tokens.specs.Tokens.{lexed}
-use Rattle.sheet_trees.specs.declared.tree.Tree.{Tree}
-use Rattle.sheet_trees.specs.Grammar.{IsFormula}
-use Rattle.sheet_tokens.specs.Order.{InOrder}
-use Rattle.sheet_trees.specs.Refusals.{IsBlocked, IsFirst, IsTooNested}
-use Rattle.sheet_trees.specs.Texts.{StandsFor}
-use Rattle.sheet_trees.specs.Reading.{Answer, ◌>>=◌, formula_at, whole_formula}
+use Rattle.sheet_syntax_trees.specs.declared.token.Token.{Token}
+use Rattle.sheet_syntax_trees.specs.declared.token.SyntaxRefusal.{SyntaxRefusal}
+use Rattle.sheet_syntax_trees.specs.declared.token.SyntaxRefusal.TheVariants.{BadToken, NumberTooWide, Expected, TooNested, NoMemory}
+use Rattle.sheet_syntax_trees.specs.TokenList.{TokenList}
+use Rattle.sheet_syntax_trees.specs.Tokens.{lexed}
+use Rattle.sheet_syntax_trees.specs.declared.tree.Tree.{Tree}
+use Rattle.sheet_syntax_trees.specs.Grammar.{IsFormula}
+use Rattle.sheet_syntax_trees.specs.Order.{InOrder}
+use Rattle.sheet_syntax_trees.specs.Refusals.{IsBlocked, IsFirst, IsTooNested}
+use Rattle.sheet_syntax_trees.specs.Texts.{StandsFor}
+use Rattle.sheet_syntax_trees.specs.Reading.{Answer, ◌>>=◌, formula_at, whole_formula}
 
 -- A tree exactly where the text stands for one, and that one. Where something else is expected, it is at the first token
 -- such that the tokens up to and with it begin no formula; what is nested too deeply is a bracket or a form.

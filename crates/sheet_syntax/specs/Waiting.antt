@@ -1,12 +1,12 @@
 -- The ifs that wait for their parts.
 use Rattle.std.specs.Prelude.{◌≡◌, ◌<◌, ℕ, ◌-◌, max, List, [], ◌∷◌, length, Result, Ok, Err}
-use Rattle.sheet_tokens.specs.declared.token.Token.{Token}
-use Rattle.sheet_tokens.specs.declared.token.SyntaxRefusal.{SyntaxRefusal}
-use Rattle.sheet_tokens.specs.declared.token.SyntaxRefusal.TheVariants.{NoMemory}
-use Rattle.sheet_trees.specs.declared.sign.Sign.TheVariants as sign
-use Rattle.sheet_trees.specs.declared.tree.Formed.{Formed}
-use Rattle.sheet_trees.specs.declared.tree.Tree.TheVariants as tree
-use Rattle.sheet_trees.specs.Reading.{Answer, Reader, ◌>>=◌, expect, with_rest, made, within}
+use Rattle.sheet_syntax_trees.specs.declared.token.Token.{Token}
+use Rattle.sheet_syntax_trees.specs.declared.token.SyntaxRefusal.{SyntaxRefusal}
+use Rattle.sheet_syntax_trees.specs.declared.token.SyntaxRefusal.TheVariants.{NoMemory}
+use Rattle.sheet_syntax_trees.specs.declared.sign.Sign.TheVariants as sign
+use Rattle.sheet_syntax_trees.specs.declared.tree.Formed.{Formed}
+use Rattle.sheet_syntax_trees.specs.declared.tree.Tree.TheVariants as tree
+use Rattle.sheet_syntax_trees.specs.Reading.{Answer, Reader, ◌>>=◌, expect, with_rest, made, within}
 use Rattle.sheet_syntax.specs.declared.waiting.Parts.{Parts}
 use Rattle.sheet_syntax.specs.declared.waiting.Parts.TheVariants.{Nothing, Condition, Branch}
 use Rattle.sheet_syntax.specs.declared.waiting.OpenIf.{OpenIf}

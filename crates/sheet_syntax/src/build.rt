@@ -1,12 +1,12 @@
 // Makes forms from their parts.
 ghost use Rattle.std.specs.Prelude.{◌≡◌, length, Ok};
-ghost use Rattle.sheet_tokens.specs.Tokens.{Reads};
-ghost use Rattle.sheet_trees.specs.Reading.{gather as gather_form, gather_where as gather_where_form, test as test_form, call as call_form, operation as operation_form, steps as steps_from, prefixes as prefixes_of, behind_prefixes, under_prefixes as under_prefixes_of};
-ghost use Rattle.sheet_trees.specs.Operators.{prefixed as prefixed_tree};
+ghost use Rattle.sheet_syntax_trees.specs.Tokens.{Reads};
+ghost use Rattle.sheet_syntax_trees.specs.Reading.{gather as gather_form, gather_where as gather_where_form, test as test_form, call as call_form, operation as operation_form, steps as steps_from, prefixes as prefixes_of, behind_prefixes, under_prefixes as under_prefixes_of};
+ghost use Rattle.sheet_syntax_trees.specs.Operators.{prefixed as prefixed_tree};
 
 use crate::front::{after, made, prefix_sign, step};
-use sheet_tokens::{SyntaxRefusal, Token};
-use sheet_trees::{Formed, Function, Gathering, Operator, Prefix, Quantifier, Sign, Tree};
+use sheet_syntax_trees::{SyntaxRefusal, Token};
+use sheet_syntax_trees::{Formed, Function, Gathering, Operator, Prefix, Quantifier, Sign, Tree};
 use sheet_values::Name;
 use sqlite_items::Boxed;
 use std::alloc::Global;

@@ -10,9 +10,9 @@ mod waiting;
 pub use front::{line_of, made, name_at, offset, step};
 pub use parser::{atom_at, formula_at};
 pub use read::{parse_at, parse_formula};
-pub use sheet_printing::print_formula;
-pub use sheet_tokens::{SyntaxRefusal, Token, TokenKind, Tokens, lex};
-pub use sheet_trees::{
+pub use sheet_syntax_print::print_formula;
+pub use sheet_syntax_trees::{SyntaxRefusal, Token, TokenKind, Tokens, lex};
+pub use sheet_syntax_trees::{
     Formed, Function, Gathering, Level, Operator, Prefix, Quantifier, Sign, Tree,
 };
 

@@ -2,16 +2,16 @@
 // brackets may be open (room), and at most so many expressions may stand in each other (turns): one for each token is
 // enough.
 ghost use Rattle.std.specs.Prelude.{◌≡◌, ◌≤◌, ◌+◌, ◌-◌, ◌∷◌, [], length, Ok, IfOk};
-ghost use Rattle.sheet_tokens.specs.Tokens.{Reads};
-ghost use Rattle.sheet_trees.specs.Reading.{setting, opened as opened_bracket, closed as closed_gathering, closed_where as closed_gathering_where, gathered as gathered_values, summed as summed_values, tested as tested_values, called as called_function, parts as parts_of_set, braced as braced_form, parenthesised as parenthesised_form, bracketed as bracketed_form, atom as atom_of_tokens, postfix as postfix_at, chain_at, operand_at, within as within_turns, formula_at as formula_of_tokens, after as tokens_after};
+ghost use Rattle.sheet_syntax_trees.specs.Tokens.{Reads};
+ghost use Rattle.sheet_syntax_trees.specs.Reading.{setting, opened as opened_bracket, closed as closed_gathering, closed_where as closed_gathering_where, gathered as gathered_values, summed as summed_values, tested as tested_values, called as called_function, parts as parts_of_set, braced as braced_form, parenthesised as parenthesised_form, bracketed as bracketed_form, atom as atom_of_tokens, postfix as postfix_at, chain_at, operand_at, within as within_turns, formula_at as formula_of_tokens, after as tokens_after};
 
 use crate::build::{call, gather, gather_where, operation, prefixes, steps, test, under_prefixes};
 use crate::front::{
     after, at_if, expect, leaf, line_of, made, name_at, offset, operator_among, repeats, sign_at,
 };
 use crate::waiting::{OpenIf, Parts, Resumed, resume};
-use sheet_tokens::{SyntaxRefusal, Token};
-use sheet_trees::{Formed, Function, Gathering, Level, Prefix, Quantifier, Sign, Tree, sign_of};
+use sheet_syntax_trees::{SyntaxRefusal, Token};
+use sheet_syntax_trees::{Formed, Function, Gathering, Level, Prefix, Quantifier, Sign, Tree, sign_of};
 use sheet_values::Name;
 use sqlite_items::Items;
 use std::alloc::Global;
@@ -59,7 +59,7 @@ fn opened<'a>(sign: Sign, rest: &'a [Token], room: Room) -> Result<&'a [Token], 
 }
 
 // The end of a comprehension or a sum without a condition.
-#[tactic(auto, unfolding(sheet_trees::specs::Reading::closed))]
+#[tactic(auto, unfolding(sheet_syntax_trees::specs::Reading::closed))]
 fn closed<'a>(
     alloc: Global,
     gathering: Gathering,
@@ -80,7 +80,7 @@ fn closed<'a>(
 
 // The condition and the end of a comprehension or a sum.
 #[cycle(parser)]
-#[tactic(auto, unfolding(sheet_trees::specs::Reading::closed_where))]
+#[tactic(auto, unfolding(sheet_syntax_trees::specs::Reading::closed_where))]
 fn closed_where<'a>(
     alloc: Global,
     gathering: Gathering,
@@ -102,7 +102,7 @@ fn closed_where<'a>(
 
 // Behind the body of a comprehension or a sum.
 #[cycle(parser)]
-#[tactic(auto, unfolding(sheet_trees::specs::Reading::gathered))]
+#[tactic(auto, unfolding(sheet_syntax_trees::specs::Reading::gathered))]
 fn gathered<'a>(
     alloc: Global,
     gathering: Gathering,
@@ -129,7 +129,7 @@ fn gathered<'a>(
 }
 
 #[cycle(parser)]
-#[tactic(auto, unfolding(sheet_trees::specs::Reading::summed))]
+#[tactic(auto, unfolding(sheet_syntax_trees::specs::Reading::summed))]
 fn summed<'a>(
     alloc: Global,
     token: &Token,
@@ -144,7 +144,7 @@ fn summed<'a>(
 }
 
 #[cycle(parser)]
-#[tactic(auto, unfolding(sheet_trees::specs::Reading::tested))]
+#[tactic(auto, unfolding(sheet_syntax_trees::specs::Reading::tested))]
 fn tested<'a>(
     alloc: Global,
     quantifier: Quantifier,
@@ -166,7 +166,7 @@ fn tested<'a>(
 }
 
 #[cycle(parser)]
-#[tactic(auto, unfolding(sheet_trees::specs::Reading::called))]
+#[tactic(auto, unfolding(sheet_syntax_trees::specs::Reading::called))]
 fn called<'a>(
     alloc: Global,
     function: Function,
@@ -223,7 +223,7 @@ fn parts<'a>(
 
 // Behind an opened brace.
 #[cycle(parser)]
-#[tactic(auto, unfolding(sheet_trees::specs::Reading::braced, sheet_trees::specs::Reading::behind_part))]
+#[tactic(auto, unfolding(sheet_syntax_trees::specs::Reading::braced, sheet_syntax_trees::specs::Reading::behind_part))]
 fn braced<'a>(
     alloc: Global,
     token: &Token,
@@ -252,7 +252,7 @@ fn braced<'a>(
 }
 
 #[cycle(parser)]
-#[tactic(auto, unfolding(sheet_trees::specs::Reading::parenthesised))]
+#[tactic(auto, unfolding(sheet_syntax_trees::specs::Reading::parenthesised))]
 fn parenthesised<'a>(
     alloc: Global,
     rest: &'a [Token],
@@ -266,7 +266,7 @@ fn parenthesised<'a>(
 }
 
 #[cycle(parser)]
-#[tactic(auto, unfolding(sheet_trees::specs::Reading::bracketed))]
+#[tactic(auto, unfolding(sheet_syntax_trees::specs::Reading::bracketed))]
 fn bracketed<'a>(
     alloc: Global,
     sign: Sign,
@@ -303,7 +303,7 @@ fn bracketed<'a>(
 }
 
 #[cycle(parser)]
-#[tactic(auto, unfolding(sheet_trees::specs::Reading::atom))]
+#[tactic(auto, unfolding(sheet_syntax_trees::specs::Reading::atom))]
 fn atom<'a>(
     alloc: Global,
     rest: &'a [Token],
@@ -321,7 +321,7 @@ fn atom<'a>(
 }
 
 #[cycle(parser)]
-#[tactic(auto, unfolding(sheet_trees::specs::Reading::postfix))]
+#[tactic(auto, unfolding(sheet_syntax_trees::specs::Reading::postfix))]
 fn postfix<'a>(
     alloc: Global,
     rest: &'a [Token],
@@ -341,7 +341,7 @@ fn postfix<'a>(
 }
 
 #[cycle(parser)]
-#[tactic(auto, unfolding(sheet_trees::specs::Reading::unary, sheet_trees::specs::Reading::negation, sheet_trees::specs::Reading::with_prefixes))]
+#[tactic(auto, unfolding(sheet_syntax_trees::specs::Reading::unary, sheet_syntax_trees::specs::Reading::negation, sheet_syntax_trees::specs::Reading::with_prefixes))]
 fn operand<'a>(
     alloc: Global,
     level: Level,
@@ -447,7 +447,7 @@ fn turn<'a>(
 }
 
 /// The formula at the front of tokens, and the tokens behind it.
-#[tactic(auto, unfolding(sheet_trees::specs::Reading::formula_at))]
+#[tactic(auto, unfolding(sheet_syntax_trees::specs::Reading::formula_at))]
 pub fn formula_at<'a>(
     alloc: Global,
     rest: &'a [Token],

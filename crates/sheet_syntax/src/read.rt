@@ -1,11 +1,11 @@
 // Formulas of texts.
 ghost use Rattle.std.specs.Prelude.{◌≡◌, ◌≤◌, length, drop, IfOk};
-ghost use Rattle.sheet_tokens.specs.Tokens.{Reads};
+ghost use Rattle.sheet_syntax_trees.specs.Tokens.{Reads};
 ghost use Rattle.sheet_syntax.specs.Formulas.{Parses, ParsesAt, parsed, parsed_at};
 
 use crate::parser::formula_at;
-use sheet_tokens::{SyntaxRefusal, Tokens, lex};
-use sheet_trees::Tree;
+use sheet_syntax_trees::{SyntaxRefusal, Tokens, lex};
+use sheet_syntax_trees::Tree;
 use std::alloc::Global;
 
 fn read_from(alloc: Global, tokens: &Tokens, from: usize) -> Result<(Tree, usize), SyntaxRefusal>

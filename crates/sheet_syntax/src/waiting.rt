@@ -1,12 +1,12 @@
 // The ifs that wait for their parts: a list of them, so that they may stand in each other however deeply.
 ghost use Rattle.std.specs.Prelude.{◌≡◌, ◌≤◌, Ok};
-ghost use Rattle.sheet_tokens.specs.Tokens.{Reads};
+ghost use Rattle.sheet_syntax_trees.specs.Tokens.{Reads};
 ghost use Rattle.sheet_syntax.specs.Waiting.{Resumes, resumed_by, chosen_form};
 
 use crate::front::{expect, made};
 use crate::parser::Room;
-use sheet_tokens::{SyntaxRefusal, Token};
-use sheet_trees::{Formed, Sign, Tree};
+use sheet_syntax_trees::{SyntaxRefusal, Token};
+use sheet_syntax_trees::{Formed, Sign, Tree};
 use sqlite_items::Boxed;
 use std::alloc::Global;
 

@@ -10,28 +10,28 @@ use Rattle.sheet_columns.specs.declared.tree.Column.TheVariants as column
 use Rattle.sheet_columns.specs.declared.tree.Node.{Node}
 use Rattle.sheet_columns.specs.declared.formula.Core.{Core}
 use Rattle.sheet_columns.specs.Tree.{column_of}
-use Rattle.sheet_trees.specs.declared.tree.Tree.{Tree}
-use Rattle.sheet_definitions.specs.declared.definition.Content.{Content}
-use Rattle.sheet_definitions.specs.declared.definition.Content.TheVariants as content
-use Rattle.sheet_definitions.specs.declared.definition.Declaration.{Declaration}
-use Rattle.sheet_definitions.specs.declared.definition.Declaration.TheVariants as declaration
-use Rattle.sheet_definitions.specs.declared.definition.Definition.{Definition}
-use Rattle.sheet_kinds.specs.Columns.{kind_of_column, kinds_from, home, AreKindsIn}
-use Rattle.sheet_kinds.specs.Formulas.{kind_in, serves}
-use Rattle.sheet_kinds.specs.Kinds.{common}
-use Rattle.sheet_kinds.specs.Statements.{suits}
-use Rattle.sheet_typing.specs.declared.refusal.TypeRefusal.{TypeRefusal}
-use Rattle.sheet_typing.specs.Typing.{typed}
-use Rattle.sheet_typing.specs.Answers.{◌>>=◌}
-use Rattle.sheet_outline.specs.declared.outline.Outline.{Outline}
-use Rattle.sheet_outline.specs.Columns.{objects_in}
-use Rattle.sheet_outline.specs.Naming.{untyped}
-use Rattle.sheet_outline.specs.Steps.{in_turn}
-use Rattle.sheet_outline.specs.Within.{form, forms_in, IsWithin, OutlinesAreWithin}
-use Rattle.sheet_outline.proofs.StepLemmas.{both_ok, same_ok}
-use Rattle.sheet_rounds.specs.Rounds.{formula_in, formulas_of, written_formulas, count_formulas, at_column}
-use Rattle.sheet_bodies.specs.Bodies.{start, procedure_of, view_of}
-use Rattle.sheet_bodies.specs.Rules.{ProceduresAreTyped, ViewsAreTyped}
+use Rattle.sheet_syntax_trees.specs.declared.tree.Tree.{Tree}
+use Rattle.sheet_define_data.specs.declared.definition.Content.{Content}
+use Rattle.sheet_define_data.specs.declared.definition.Content.TheVariants as content
+use Rattle.sheet_define_data.specs.declared.definition.Declaration.{Declaration}
+use Rattle.sheet_define_data.specs.declared.definition.Declaration.TheVariants as declaration
+use Rattle.sheet_define_data.specs.declared.definition.Definition.{Definition}
+use Rattle.sheet_types_rules.specs.Columns.{kind_of_column, kinds_from, home, AreKindsIn}
+use Rattle.sheet_types_rules.specs.Formulas.{kind_in, serves}
+use Rattle.sheet_types_rules.specs.Kinds.{common}
+use Rattle.sheet_types_rules.specs.Statements.{suits}
+use Rattle.sheet_types_formulas.specs.declared.refusal.TypeRefusal.{TypeRefusal}
+use Rattle.sheet_types_formulas.specs.Typing.{typed}
+use Rattle.sheet_types_formulas.specs.Answers.{◌>>=◌}
+use Rattle.sheet_types_outline.specs.declared.outline.Outline.{Outline}
+use Rattle.sheet_types_outline.specs.Columns.{objects_in}
+use Rattle.sheet_types_outline.specs.Naming.{untyped}
+use Rattle.sheet_types_outline.specs.Steps.{in_turn}
+use Rattle.sheet_types_outline.specs.Within.{form, forms_in, IsWithin, OutlinesAreWithin}
+use Rattle.sheet_types_outline.proofs.StepLemmas.{both_ok, same_ok}
+use Rattle.sheet_types_rounds.specs.Rounds.{formula_in, formulas_of, written_formulas, count_formulas, at_column}
+use Rattle.sheet_types_bodies.specs.Bodies.{start, procedure_of, view_of}
+use Rattle.sheet_types_bodies.specs.Rules.{ProceduresAreTyped, ViewsAreTyped}
 use Rattle.sheet_books.specs.Books.{is_known, IsFormulaOf, HasFormula, HaveFormulas, IsWellTypedProcedure, IsWellTypedView, IsWellTyped}
 use Rattle.sheet_books.specs.Within.{KindsAreWithin}
 use Rattle.sheet_types.specs.declared.bodies.Bodies.{Bodies}

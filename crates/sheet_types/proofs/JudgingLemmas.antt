@@ -2,13 +2,13 @@
 use Rattle.std.proofs.Common.{◌≡◌, ℕ, ◌+◌, ◌≤◌, List, [], ◌∷◌, ◌++◌, length, Ok, sym, ap, ◌∙◌, length-append, arith}
 use Rattle.std.specs.Prelude.{slice_index_or}
 use Rattle.sheet_values.specs.declared.value.Kind.{Kind}
-use Rattle.sheet_definitions.specs.declared.definition.Declaration.{Declaration}
-use Rattle.sheet_definitions.specs.declared.definition.Declaration.TheVariants as declaration
-use Rattle.sheet_outline.specs.declared.outline.Outline.{Outline}
-use Rattle.sheet_outline.specs.Columns.{objects_at, objects_in}
-use Rattle.sheet_outline.proofs.StepLemmas.{both_ok, same_ok}
-use Rattle.sheet_rounds.specs.Rounds.{formula_in}
-use Rattle.sheet_bodies.specs.Bodies.{start, procedure_of, view_of}
+use Rattle.sheet_define_data.specs.declared.definition.Declaration.{Declaration}
+use Rattle.sheet_define_data.specs.declared.definition.Declaration.TheVariants as declaration
+use Rattle.sheet_types_outline.specs.declared.outline.Outline.{Outline}
+use Rattle.sheet_types_outline.specs.Columns.{objects_at, objects_in}
+use Rattle.sheet_types_outline.proofs.StepLemmas.{both_ok, same_ok}
+use Rattle.sheet_types_rounds.specs.Rounds.{formula_in}
+use Rattle.sheet_types_bodies.specs.Bodies.{start, procedure_of, view_of}
 use Rattle.sheet_types.specs.declared.bodies.Bodies.{Bodies}
 use Rattle.sheet_types.specs.Elaboration.{column_body, judge}
 

@@ -8,17 +8,17 @@ use Rattle.sheet_columns.specs.declared.tree.Column.{Column}
 use Rattle.sheet_columns.specs.declared.tree.Column.TheVariants as column
 use Rattle.sheet_columns.specs.declared.tree.Node.{Node}
 use Rattle.sheet_columns.specs.Tree.{column_of, IsUnder, IsTree}
-use Rattle.sheet_trees.specs.declared.tree.Tree.{Tree}
-use Rattle.sheet_typing.specs.declared.scope.Typed.{Typed}
-use Rattle.sheet_typing.specs.declared.scope.Variable.{Variable}
-use Rattle.sheet_typing.specs.Answers.{Answer}
-use Rattle.sheet_typing.specs.Names.{reach}
-use Rattle.sheet_typing.specs.Typing.{typed}
-use Rattle.sheet_kinds.specs.Columns.{kind_of_column, kinds_from, home, home_at, IsKindIn, IsHeldIn, AreKindsIn}
-use Rattle.sheet_kinds.specs.Formulas.{kind_in}
+use Rattle.sheet_syntax_trees.specs.declared.tree.Tree.{Tree}
+use Rattle.sheet_types_formulas.specs.declared.scope.Typed.{Typed}
+use Rattle.sheet_types_formulas.specs.declared.scope.Variable.{Variable}
+use Rattle.sheet_types_formulas.specs.Answers.{Answer}
+use Rattle.sheet_types_formulas.specs.Names.{reach}
+use Rattle.sheet_types_formulas.specs.Typing.{typed}
+use Rattle.sheet_types_rules.specs.Columns.{kind_of_column, kinds_from, home, home_at, IsKindIn, IsHeldIn, AreKindsIn}
+use Rattle.sheet_types_rules.specs.Formulas.{kind_in}
 use Rattle.sheet_books.specs.Within.{KindsAreWithin}
-use Rattle.sheet_outline.specs.Within.{form}
-use Rattle.sheet_rounds.specs.Rounds.{at_column, kind_told, is_unknown, next_kind, next_kinds, round, rounds}
+use Rattle.sheet_types_outline.specs.Within.{form}
+use Rattle.sheet_types_rounds.specs.Rounds.{at_column, kind_told, is_unknown, next_kind, next_kinds, round, rounds}
 use Rattle.sheet_types.specs.Elaboration.{of_kind, with_kinds}
 
 -- Typed formulas have their types by the rules for resolved formulas.

@@ -8,24 +8,24 @@ use Rattle.sheet_columns.specs.declared.tree.Node.{Node}
 use Rattle.sheet_columns.specs.Tree.{path}
 use Rattle.sheet_columns.specs.Contents.{holding}
 use Rattle.sheet_columns.specs.declared.formula.Core.{Core}
-use Rattle.sheet_trees.specs.declared.tree.Tree.{Tree}
-use Rattle.sheet_definitions.specs.declared.definition.Column.{Column as WrittenColumn}
-use Rattle.sheet_definitions.specs.declared.definition.Procedure.{Procedure as WrittenProcedure}
-use Rattle.sheet_definitions.specs.declared.definition.View.{View as WrittenView}
-use Rattle.sheet_definitions.specs.declared.definition.Declaration.{Declaration}
-use Rattle.sheet_definitions.specs.declared.definition.Declaration.TheVariants as declaration
-use Rattle.sheet_definitions.specs.declared.definition.Definition.{Definition}
-use Rattle.sheet_kinds.specs.Columns.{kinds_from}
-use Rattle.sheet_typing.specs.declared.refusal.TypeRefusal.TheVariants.{NeedsType, DeclaredOther}
-use Rattle.sheet_typing.specs.Answers.{Answer, ◌>>=◌}
-use Rattle.sheet_kinds.specs.Kinds.{common}
-use Rattle.sheet_typing.specs.Kinds.{kind_text}
-use Rattle.sheet_typing.specs.Typing.{typed}
-use Rattle.sheet_outline.specs.declared.outline.Outline.{Outline}
-use Rattle.sheet_outline.specs.Outlines.{outlined}
-use Rattle.sheet_outline.specs.Steps.{in_turn}
-use Rattle.sheet_rounds.specs.Rounds.{formula_in, formulas_of, at_column, is_unknown, final_kinds}
-use Rattle.sheet_bodies.specs.Bodies.{start, procedure_of, view_of}
+use Rattle.sheet_syntax_trees.specs.declared.tree.Tree.{Tree}
+use Rattle.sheet_define_data.specs.declared.definition.Column.{Column as WrittenColumn}
+use Rattle.sheet_define_data.specs.declared.definition.Procedure.{Procedure as WrittenProcedure}
+use Rattle.sheet_define_data.specs.declared.definition.View.{View as WrittenView}
+use Rattle.sheet_define_data.specs.declared.definition.Declaration.{Declaration}
+use Rattle.sheet_define_data.specs.declared.definition.Declaration.TheVariants as declaration
+use Rattle.sheet_define_data.specs.declared.definition.Definition.{Definition}
+use Rattle.sheet_types_rules.specs.Columns.{kinds_from}
+use Rattle.sheet_types_formulas.specs.declared.refusal.TypeRefusal.TheVariants.{NeedsType, DeclaredOther}
+use Rattle.sheet_types_formulas.specs.Answers.{Answer, ◌>>=◌}
+use Rattle.sheet_types_rules.specs.Kinds.{common}
+use Rattle.sheet_types_formulas.specs.Kinds.{kind_text}
+use Rattle.sheet_types_formulas.specs.Typing.{typed}
+use Rattle.sheet_types_outline.specs.declared.outline.Outline.{Outline}
+use Rattle.sheet_types_outline.specs.Outlines.{outlined}
+use Rattle.sheet_types_outline.specs.Steps.{in_turn}
+use Rattle.sheet_types_rounds.specs.Rounds.{formula_in, formulas_of, at_column, is_unknown, final_kinds}
+use Rattle.sheet_types_bodies.specs.Bodies.{start, procedure_of, view_of}
 use Rattle.sheet_types.specs.declared.bodies.Bodies.{Bodies}
 use Rattle.sheet_books.specs.declared.book.Contents.{Contents}
 

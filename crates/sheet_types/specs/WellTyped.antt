@@ -1,10 +1,10 @@
 -- Books of definitions are well typed.
 use Rattle.std.specs.Prelude.{◌≡◌, Ok}
 use Rattle.sheet_columns.specs.Tree.{IsTree}
-use Rattle.sheet_definitions.specs.declared.definition.Definition.{Definition}
-use Rattle.sheet_outline.specs.declared.outline.Outline.{Outline}
-use Rattle.sheet_outline.specs.Orderly.{IsOrderly}
-use Rattle.sheet_outline.specs.Outlines.{outlined}
+use Rattle.sheet_define_data.specs.declared.definition.Definition.{Definition}
+use Rattle.sheet_types_outline.specs.declared.outline.Outline.{Outline}
+use Rattle.sheet_types_outline.specs.Orderly.{IsOrderly}
+use Rattle.sheet_types_outline.specs.Outlines.{outlined}
 use Rattle.sheet_books.specs.declared.book.Contents.{Contents}
 use Rattle.sheet_books.specs.Books.{IsWellTyped}
 use Rattle.sheet_types.specs.Elaboration.{settled, with_bodies}

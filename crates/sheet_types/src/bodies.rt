@@ -1,18 +1,18 @@
 // The third pass.
 ghost use Rattle.std.specs.Prelude.{◌≡◌, ◌<◌, ◌≤◌, ◌+◌, ◌∷◌, [], length, IfOk, slice_index_or};
-ghost use Rattle.sheet_typing.specs.Answers.{Answers};
-ghost use Rattle.sheet_outline.specs.Columns.{objects_at, objects_in};
-ghost use Rattle.sheet_outline.specs.Steps.{Leaves};
+ghost use Rattle.sheet_types_formulas.specs.Answers.{Answers};
+ghost use Rattle.sheet_types_outline.specs.Columns.{objects_at, objects_in};
+ghost use Rattle.sheet_types_outline.specs.Steps.{Leaves};
 ghost use Rattle.sheet_types.specs.Elaboration.{add_column as with_column_body, with_procedure, with_view, judge as judge_declaration, no_bodies, all_judged};
 
 use crate::columns::column_body;
-use sheet_bodies::{resolve_procedure, resolve_view};
+use sheet_types_bodies::{resolve_procedure, resolve_view};
 use sheet_books::{Procedure, View};
 use sheet_columns::{Core, Parameters, Sequence};
-use sheet_definitions::{Column, Declaration};
-use sheet_outline::Outline;
-use sheet_rounds::formula_in;
-use sheet_typing::TypeRefusal;
+use sheet_define_data::{Column, Declaration};
+use sheet_types_outline::Outline;
+use sheet_types_rounds::formula_in;
+use sheet_types_formulas::TypeRefusal;
 use sheet_values::{Kind, Name, NoMemory};
 use std::alloc::Global;
 
@@ -86,7 +86,7 @@ impl Bodies {
         alloc: Global,
         outline: &Outline,
         kinds: &[Kind],
-        written: &sheet_definitions::Procedure,
+        written: &sheet_define_data::Procedure,
     ) -> Result<(), TypeRefusal>
         ensures { Leaves result self.new (with_procedure outline.now kinds.now self.old written.now (slice_index_or outline.now.procedures (length self.old.procedures) [])) }
     {
@@ -104,7 +104,7 @@ impl Bodies {
         alloc: Global,
         outline: &Outline,
         kinds: &[Kind],
-        written: &sheet_definitions::View,
+        written: &sheet_define_data::View,
     ) -> Result<(), TypeRefusal>
         ensures { Leaves result self.new (with_view outline.now kinds.now self.old written.now (slice_index_or outline.now.views (length self.old.views) [])) }
     {

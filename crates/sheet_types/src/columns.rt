@@ -2,13 +2,13 @@
 ghost use Rattle.std.specs.Prelude.{◌≡◌, ◌<◌, length, option_map, slice_index_or, IfOk};
 ghost use Rattle.sheet_values.specs.declared.value.Kind.TheVariants as kind;
 ghost use Rattle.sheet_columns.specs.Tree.{path};
-ghost use Rattle.sheet_typing.specs.Answers.{Answers};
-ghost use Rattle.sheet_typing.specs.Kinds.{kind_text as text_of};
+ghost use Rattle.sheet_types_formulas.specs.Answers.{Answers};
+ghost use Rattle.sheet_types_formulas.specs.Kinds.{kind_text as text_of};
 ghost use Rattle.sheet_types.specs.Elaboration.{judged as judged_column, column_formula as formula_of_column, column_body as body_of_column};
 
 use sheet_columns::{Columns, Core};
-use sheet_trees::Tree;
-use sheet_typing::{Scope, TypeRefusal, Variable, common_kind, kind_text, type_formula};
+use sheet_syntax_trees::Tree;
+use sheet_types_formulas::{Scope, TypeRefusal, Variable, common_kind, kind_text, type_formula};
 use sheet_values::{Kind, Name, NoMemory};
 use std::alloc::Global;
 

@@ -1,9 +1,9 @@
 // Definitions elaborated.
 ghost use Rattle.std.specs.Prelude.{◌≡◌, ◌≤◌, length, OnOk};
 ghost use Rattle.sheet_columns.specs.Tree.{IsTree};
-ghost use Rattle.sheet_typing.specs.Answers.{Answers};
-ghost use Rattle.sheet_outline.specs.Orderly.{IsOrderly};
-ghost use Rattle.sheet_rounds.specs.Rounds.{formulas_of, final_kinds as final_kinds_of};
+ghost use Rattle.sheet_types_formulas.specs.Answers.{Answers};
+ghost use Rattle.sheet_types_outline.specs.Orderly.{IsOrderly};
+ghost use Rattle.sheet_types_rounds.specs.Rounds.{formulas_of, final_kinds as final_kinds_of};
 ghost use Rattle.sheet_types.specs.Elaboration.{elaborated, with_kinds as columns_with_kinds};
 
 use crate::bodies::judge_all;
@@ -11,10 +11,10 @@ use crate::columns::kind_at;
 use crate::law::books_are_well_typed;
 use sheet_books::{Book, Contents};
 use sheet_columns::{Column, Columns};
-use sheet_definitions::Definition;
-use sheet_outline::{outline_definition, outlines_are_within};
-use sheet_rounds::{final_kinds, first_kinds};
-use sheet_typing::TypeRefusal;
+use sheet_define_data::Definition;
+use sheet_types_outline::{outline_definition, outlines_are_within};
+use sheet_types_rounds::{final_kinds, first_kinds};
+use sheet_types_formulas::TypeRefusal;
 use sheet_values::{Kind, NoMemory};
 use std::alloc::Global;
 

@@ -11,4 +11,4 @@ mod tests;
 pub use elaboration::elaborate;
 pub use law::books_are_well_typed;
 pub use sheet_books::{Book, Procedure, View};
-pub use sheet_typing::TypeRefusal;
+pub use sheet_types_formulas::TypeRefusal;

@@ -1,8 +1,8 @@
 // Small definitions and their books.
 use crate::{Book, TypeRefusal, elaborate};
-use sheet_definitions::{Column, Content, Declaration, Definition};
-use sheet_outline::is_orderly;
-use sheet_trees::Tree;
+use sheet_define_data::{Column, Content, Declaration, Definition};
+use sheet_types_outline::is_orderly;
+use sheet_syntax_trees::Tree;
 use sheet_values::{Name, NoMemory};
 use sqlite_items::Items;
 use std::alloc::Global;

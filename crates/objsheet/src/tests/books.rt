@@ -2,7 +2,7 @@
 use sheet_books::Book;
 use sheet_columns::{Column, Core};
 use sheet_define::read_definition;
-use sheet_outline::is_orderly;
+use sheet_types_outline::is_orderly;
 use sheet_types::elaborate;
 use std::alloc::Global;
 use std::test::Fail;

@@ -1,10 +1,10 @@
 use Rattle.std.proofs.Common.{Bor, ℕ, ◌+◌, ◌-◌, List, length, sym, ap, ◌∙◌, subst, arith}
 use Rattle.std.specs.Prelude.{Option}
-use Rattle.sheet_tokens.specs.declared.token.Token.{Token}
-use Rattle.sheet_tokens.specs.Tokens.{Reads}
-use Rattle.sheet_trees.specs.Reading.{Answer, ◌>>=◌}
-use Rattle.sheet_definitions.specs.declared.definition.Declaration.{Declaration}
-use Rattle.sheet_reading.specs.Reading.{usual, all_before, declarations, found_list, turn_by}
+use Rattle.sheet_syntax_trees.specs.declared.token.Token.{Token}
+use Rattle.sheet_syntax_trees.specs.Tokens.{Reads}
+use Rattle.sheet_syntax_trees.specs.Reading.{Answer, ◌>>=◌}
+use Rattle.sheet_define_data.specs.declared.definition.Declaration.{Declaration}
+use Rattle.sheet_define_reading.specs.Reading.{usual, all_before, declarations, found_list, turn_by}
 use Rattle.sheet_define.proofs.Loops.{passed, no_tokens, whole_begun, declared_before, ended_at, over_at, turn_at, one_less}
 use Rattle.sheet_define.proofs.declaration.declarations.Goals as goal
 

@@ -1,5 +1,5 @@
 use Rattle.std.proofs.Common.{◌≡◌, ◌-◌}
-use Rattle.sheet_reading.specs.Reading.{usual, all_before, declarations, whole_definition}
+use Rattle.sheet_define_reading.specs.Reading.{usual, all_before, declarations, whole_definition}
 use Rattle.sheet_define.proofs.declaration.declarations.Given as goal
 
 abbrev pub invariant-loop : goal.invariant-loop

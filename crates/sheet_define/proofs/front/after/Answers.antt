@@ -1,11 +1,11 @@
 use Rattle.std.proofs.Common.{◌≡◌, rules, Some, refl, sym, ◌∙◌, List, ◌∷◌}
 use denote.Enum.Bare.{same_true}
-use Rattle.sheet_tokens.specs.declared.token.Token.{Token}
-use Rattle.sheet_reading.specs.declared.mark.Mark.{Mark}
-use Rattle.sheet_reading.specs.contracts.mark.Mark.{the_type}
-use Rattle.sheet_reading.specs.Marks.{mark_of}
-use Rattle.sheet_reading.specs.Reading.{after}
-use Rattle.sheet_reading.proofs.MarkLemmas.{same_self}
+use Rattle.sheet_syntax_trees.specs.declared.token.Token.{Token}
+use Rattle.sheet_define_reading.specs.declared.mark.Mark.{Mark}
+use Rattle.sheet_define_reading.specs.contracts.mark.Mark.{the_type}
+use Rattle.sheet_define_reading.specs.Marks.{mark_of}
+use Rattle.sheet_define_reading.specs.Reading.{after}
+use Rattle.sheet_define_reading.proofs.MarkLemmas.{same_self}
 use Rattle.sheet_define.proofs.front.after.Goals as goal
 
 after_some : (m : Mark) (t : Token) (ts rest : List Token) → rest ≡ t ∷ ts → mark_of t.kind ≡ m → after m rest ≡ Some ts

@@ -1,9 +1,9 @@
 use Rattle.std.proofs.Common.{Bor, ◌+◌, ◌-◌, ◌∷◌, [], List, sym, ap, ◌∙◌, subst, arith}
-use Rattle.sheet_tokens.specs.declared.token.Token.{Token}
-use Rattle.sheet_tokens.specs.Tokens.{Reads}
-use Rattle.sheet_trees.specs.Reading.{Answer, ◌>>=◌}
-use Rattle.sheet_definitions.specs.declared.definition.Parameter.{Parameter}
-use Rattle.sheet_reading.specs.Reading.{usual, with_front, more_parameters}
+use Rattle.sheet_syntax_trees.specs.declared.token.Token.{Token}
+use Rattle.sheet_syntax_trees.specs.Tokens.{Reads}
+use Rattle.sheet_syntax_trees.specs.Reading.{Answer, ◌>>=◌}
+use Rattle.sheet_define_data.specs.declared.definition.Parameter.{Parameter}
+use Rattle.sheet_define_reading.specs.Reading.{usual, with_front, more_parameters}
 use Rattle.sheet_define.proofs.Loops.{passed, both_before, parameters_end, parameters_over, parameters_more, one_less}
 use Rattle.sheet_define.proofs.parameter.more_parameters.Goals as goal
 

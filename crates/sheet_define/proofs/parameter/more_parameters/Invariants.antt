@@ -1,5 +1,5 @@
 use Rattle.std.proofs.Common.{◌≡◌, ◌-◌, ◌∷◌, []}
-use Rattle.sheet_reading.specs.Reading.{usual, with_front, more_parameters}
+use Rattle.sheet_define_reading.specs.Reading.{usual, with_front, more_parameters}
 use Rattle.sheet_define.proofs.parameter.more_parameters.Given as goal
 
 abbrev pub invariant-loop : goal.invariant-loop

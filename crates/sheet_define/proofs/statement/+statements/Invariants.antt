@@ -1,5 +1,5 @@
 use Rattle.std.proofs.Common.{◌≡◌, ◌+◌, ◌*◌, ◌-◌, length}
-use Rattle.sheet_reading.specs.Reading.{usual, with_front, many, statement_by, block}
+use Rattle.sheet_define_reading.specs.Reading.{usual, with_front, many, statement_by, block}
 use Rattle.sheet_define.proofs.statement.+statements.Given as goal
 
 abbrev pub decreases-block : goal.decreases-block

@@ -1,12 +1,12 @@
 use Rattle.std.proofs.Common.{Bor, ◌≡◌, ℕ, ◌+◌, ◌-◌, ◌<◌, ◌∷◌, List, length, Some, None, Ok, Err, sym, ap, ◌∙◌, arith}
-use Rattle.sheet_tokens.specs.declared.token.Token.{Token}
-use Rattle.sheet_tokens.specs.declared.token.SyntaxRefusal.TheVariants.{Expected}
-use Rattle.sheet_trees.specs.declared.tree.Tree.{Tree}
-use Rattle.sheet_trees.specs.declared.tree.Formed.{Formed}
-use Rattle.sheet_trees.specs.Reading.{Answer, ◌>>=◌, made, or_expected, step_of}
-use Rattle.sheet_definitions.specs.declared.statement.Target.{Target}
-use Rattle.sheet_reading.specs.Reading.{Bounds, usual, last_step, step_by, alone, expect}
-use Rattle.sheet_reading.specs.declared.mark.Mark.TheVariants as mark
+use Rattle.sheet_syntax_trees.specs.declared.token.Token.{Token}
+use Rattle.sheet_syntax_trees.specs.declared.token.SyntaxRefusal.TheVariants.{Expected}
+use Rattle.sheet_syntax_trees.specs.declared.tree.Tree.{Tree}
+use Rattle.sheet_syntax_trees.specs.declared.tree.Formed.{Formed}
+use Rattle.sheet_syntax_trees.specs.Reading.{Answer, ◌>>=◌, made, or_expected, step_of}
+use Rattle.sheet_define_data.specs.declared.statement.Target.{Target}
+use Rattle.sheet_define_reading.specs.Reading.{Bounds, usual, last_step, step_by, alone, expect}
+use Rattle.sheet_define_reading.specs.declared.mark.Mark.TheVariants as mark
 use Rattle.sheet_define.proofs.Loops.{passed, no_tokens, last_over, last_ok, last_refused, step_lone, step_cut, step_on, one_less}
 use Rattle.sheet_define.proofs.target.last_step.Goals as goal
 

@@ -1,5 +1,5 @@
 use Rattle.std.proofs.Common.{◌≡◌, ◌-◌, length}
-use Rattle.sheet_reading.specs.Reading.{usual, last_step}
+use Rattle.sheet_define_reading.specs.Reading.{usual, last_step}
 use Rattle.sheet_define.proofs.target.last_step.Given as goal
 
 abbrev pub invariant-loop : goal.invariant-loop

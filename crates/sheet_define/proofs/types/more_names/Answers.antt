@@ -1,9 +1,9 @@
 use Rattle.std.proofs.Common.{Bor, ◌≡◌, ℕ, ◌∷◌, [], List, length, sym, ap, ◌∙◌, arith}
-use Rattle.sheet_tokens.specs.declared.token.Token.{Token}
-use Rattle.sheet_trees.specs.Reading.{◌>>=◌}
-use Rattle.sheet_reading.specs.Reading.{with_front, more_names}
+use Rattle.sheet_syntax_trees.specs.declared.token.Token.{Token}
+use Rattle.sheet_syntax_trees.specs.Reading.{◌>>=◌}
+use Rattle.sheet_define_reading.specs.Reading.{with_front, more_names}
 use Rattle.sheet_define.proofs.Loops.{passed, both_before, things_before, names_end, names_more, name_shorter, after_is}
-use Rattle.sheet_reading.specs.declared.mark.Mark.TheVariants as mark
+use Rattle.sheet_define_reading.specs.declared.mark.Mark.TheVariants as mark
 use Rattle.sheet_define.proofs.types.more_names.Goals as goal
 
 pub returns-in-Err : goal.returns-in-Err

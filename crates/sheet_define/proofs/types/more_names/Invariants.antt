@@ -1,5 +1,5 @@
 use Rattle.std.proofs.Common.{◌≡◌, length}
-use Rattle.sheet_reading.specs.Reading.{with_front, more_names}
+use Rattle.sheet_define_reading.specs.Reading.{with_front, more_names}
 use Rattle.sheet_define.proofs.types.more_names.Given as goal
 
 abbrev pub decreases-loop-behind : goal.decreases-loop-behind

@@ -1,5 +1,5 @@
 use Rattle.std.proofs.Common.{◌≡◌, ◌-◌, length}
-use Rattle.sheet_reading.specs.Reading.{usual, with_front, many, part_by}
+use Rattle.sheet_define_reading.specs.Reading.{usual, with_front, many, part_by}
 use Rattle.sheet_define.proofs.view.parts.Given as goal
 
 abbrev pub invariant-loop : goal.invariant-loop

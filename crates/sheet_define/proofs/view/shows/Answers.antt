@@ -1,14 +1,14 @@
 use Rattle.std.proofs.Common.{Bor, rules, ◌≡◌, ℕ, ◌+◌, ◌-◌, List, length, Err, sym, ap, ◌∙◌, arith}
 use denote.Enum.Bare.{same_true, same_false}
-use Rattle.sheet_tokens.specs.declared.token.Token.{Token}
-use Rattle.sheet_tokens.specs.declared.token.SyntaxRefusal.TheVariants.{Expected}
-use Rattle.sheet_definitions.specs.declared.definition.Show.{Show}
-use Rattle.sheet_trees.specs.Reading.{Answer}
-use Rattle.sheet_reading.specs.declared.mark.Mark.{Mark}
-use Rattle.sheet_reading.specs.declared.mark.Mark.TheVariants as mark
-use Rattle.sheet_reading.specs.contracts.mark.Mark.{the_type}
-use Rattle.sheet_reading.specs.Marks.{mark_of}
-use Rattle.sheet_reading.specs.Reading.{usual, with_front, many, show_by}
+use Rattle.sheet_syntax_trees.specs.declared.token.Token.{Token}
+use Rattle.sheet_syntax_trees.specs.declared.token.SyntaxRefusal.TheVariants.{Expected}
+use Rattle.sheet_define_data.specs.declared.definition.Show.{Show}
+use Rattle.sheet_syntax_trees.specs.Reading.{Answer}
+use Rattle.sheet_define_reading.specs.declared.mark.Mark.{Mark}
+use Rattle.sheet_define_reading.specs.declared.mark.Mark.TheVariants as mark
+use Rattle.sheet_define_reading.specs.contracts.mark.Mark.{the_type}
+use Rattle.sheet_define_reading.specs.Marks.{mark_of}
+use Rattle.sheet_define_reading.specs.Reading.{usual, with_front, many, show_by}
 use Rattle.sheet_define.proofs.Loops.{passed, no_tokens, many_over, many_none, many_ended, many_on, many_stopped, one_less}
 use Rattle.sheet_define.proofs.view.shows.Goals as goal
 

@@ -1,8 +1,8 @@
 use Rattle.std.proofs.Common.{◌≡◌, ◌∙◌, sym, ap, subst, ◌-◌, ◌∷◌, arith, length, None, false}
 use Rattle.std.specs.Prelude.{slice_set, sum_by, map}
 use Rattle.std.specs.List.{flat_map}
-use Rattle.sheet_objects.specs.Rows.{Table, with_objects}
-use Rattle.sheet_objects.specs.declared.row.ObjectRow.{ObjectRow}
+use Rattle.sheet_state_rows.specs.Rows.{Table, with_objects}
+use Rattle.sheet_state_rows.specs.declared.row.ObjectRow.{ObjectRow}
 use Rattle.sheet_state.specs.Births.{with_items}
 use Rattle.sheet_state.specs.Deaths.{buried, buried_items, lost_objects, lost_cells, object_row}
 use Rattle.sheet_state.proofs.Sweeping.{Visited, Totals, totals, with_row, all_told, turn, ends, each_above, none_waits, fits_rest, length_set, quiet_object}

@@ -1,5 +1,5 @@
 use Rattle.std.proofs.Common.{◌≡◌, length}
-use Rattle.sheet_objects.specs.Rows.{with_objects}
+use Rattle.sheet_state_rows.specs.Rows.{with_objects}
 use Rattle.sheet_state.specs.Deaths.{buried, buried_items, lost_objects, lost_cells}
 use Rattle.sheet_state.specs.Places.{Fits}
 use Rattle.sheet_state.proofs.Sweeping.{Visited, totals, with_row, quiet_object}

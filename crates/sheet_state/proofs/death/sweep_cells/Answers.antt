@@ -2,8 +2,8 @@ use Rattle.std.proofs.Common.{◌≡◌, ◌∙◌, sym, ap, subst, ◌-◌, ◌
 use Rattle.std.specs.Prelude.{slice_set, sum_by, map}
 use Rattle.std.specs.List.{flat_map}
 use Rattle.sheet_columns.specs.declared.item.Item.TheVariants.{Stored}
-use Rattle.sheet_objects.specs.Rows.{Table, with_cells}
-use Rattle.sheet_objects.specs.declared.row.SetRow.{SetRow}
+use Rattle.sheet_state_rows.specs.Rows.{Table, with_cells}
+use Rattle.sheet_state_rows.specs.declared.row.SetRow.{SetRow}
 use Rattle.sheet_state.specs.Births.{with_items}
 use Rattle.sheet_state.specs.Deaths.{swept, swept_items, lost, set_row}
 use Rattle.sheet_state.proofs.Sweeping.{Visited, Totals, totals, with_row, all_told, turn, ends, each_above, none_waits, fits_rest, length_set, quiet_cell}

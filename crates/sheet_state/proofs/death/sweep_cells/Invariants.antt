@@ -1,6 +1,6 @@
 use Rattle.std.proofs.Common.{◌≡◌, length}
 use Rattle.sheet_columns.specs.declared.item.Item.TheVariants.{Stored}
-use Rattle.sheet_objects.specs.Rows.{with_cells}
+use Rattle.sheet_state_rows.specs.Rows.{with_cells}
 use Rattle.sheet_state.specs.Deaths.{swept, swept_items, lost}
 use Rattle.sheet_state.specs.Places.{Fits}
 use Rattle.sheet_state.proofs.Sweeping.{Visited, totals, with_row, quiet_cell}

@@ -2,7 +2,7 @@ use Rattle.std.proofs.Common.{◌∙◌, sym, ap, rules, Some, None, false}
 use Rattle.std.specs.Prelude.{if◌then◌else◌}
 use Rattle.std.specs.Ordering.{nat_cmp}
 use Rattle.std.proofs.lemmas.List.Sorted.{answers_always}
-use Rattle.sheet_objects.specs.declared.row.ObjectRow.{ObjectRow}
+use Rattle.sheet_state_rows.specs.declared.row.ObjectRow.{ObjectRow}
 use Rattle.sheet_state.specs.Rows.{object_cmp}
 use Rattle.sheet_state.proofs.Searching.{objects_follow, object_tests, found, missing}
 use Rattle.sheet_state.proofs.lookup.object_place.Goals as goal

@@ -1,9 +1,9 @@
 use Rattle.std.proofs.Common.{◌≡◌, ◌∙◌, subst, ℕ, length, arith, refl, eq-eqb, Some, List}
 use Rattle.std.specs.Prelude.{position, filter}
-use Rattle.sheet_objects.specs.declared.row.SetRow.{SetRow}
-use Rattle.sheet_references.specs.Order.{reference_cmp, is_to}
-use Rattle.sheet_references.specs.declared.references.Reference.{Reference}
-use Rattle.sheet_references.proofs.Between.{same_reference, stays}
+use Rattle.sheet_state_rows.specs.declared.row.SetRow.{SetRow}
+use Rattle.sheet_state_references.specs.Order.{reference_cmp, is_to}
+use Rattle.sheet_state_references.specs.declared.references.Reference.{Reference}
+use Rattle.sheet_state_references.proofs.Between.{same_reference, stays}
 use Rattle.sheet_state.specs.Places.{Adds, RefersTo}
 use Rattle.sheet_state.specs.Rows.{is_set}
 use Rattle.sheet_state.proofs.Adding.{Among, each_more, each_all, fewer}

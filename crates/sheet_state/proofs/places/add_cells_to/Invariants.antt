@@ -1,7 +1,7 @@
 use Rattle.std.proofs.Common.{◌≡◌, Some, take, length}
 use Rattle.std.specs.Prelude.{position}
-use Rattle.sheet_references.specs.Order.{reference_cmp}
-use Rattle.sheet_references.specs.declared.references.Reference.{Reference}
+use Rattle.sheet_state_references.specs.Order.{reference_cmp}
+use Rattle.sheet_state_references.specs.declared.references.Reference.{Reference}
 use Rattle.sheet_state.specs.Places.{Adds}
 use Rattle.sheet_state.specs.Rows.{is_set}
 use Rattle.sheet_state.proofs.Adding.{Among}

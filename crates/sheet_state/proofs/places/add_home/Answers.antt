@@ -1,7 +1,7 @@
 use Rattle.std.proofs.Common.{◌≡◌, ◌∙◌, sym, ap, ℕ, length, get_or, List, Option, Some, None, Result, Ok, Err, false}
 use Rattle.std.specs.Prelude.{position, if◌then◌else◌, ◌==◌, OnOk}
-use Rattle.sheet_objects.specs.declared.row.ObjectRow.{ObjectRow}
-use Rattle.sheet_objects.specs.declared.row.SetRow.{SetRow}
+use Rattle.sheet_state_rows.specs.declared.row.ObjectRow.{ObjectRow}
+use Rattle.sheet_state_rows.specs.declared.row.SetRow.{SetRow}
 use Rattle.sheet_meaning.specs.Workbook.{object_at}
 use Rattle.sheet_meaning.specs.declared.workbook.LiveObject.{LiveObject}
 use Rattle.sheet_meaning.proofs.Members.{both_true}

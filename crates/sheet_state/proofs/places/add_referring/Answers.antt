@@ -2,7 +2,7 @@ use Rattle.std.proofs.Common.{◌≡◌, ◌∙◌, sym, ap, subst, ◌+◌, tak
 use Rattle.std.specs.Ordering.{is_eq}
 use Rattle.std.proofs.lemmas.List.Folds.{list_any_at}
 use Rattle.sheet_values.specs.Sets.{contains}
-use Rattle.sheet_references.proofs.Numbers.{ties}
+use Rattle.sheet_state_references.proofs.Numbers.{ties}
 use Rattle.sheet_values.specs.Order.{value_cmp}
 use Rattle.sheet_values.specs.declared.value.Value.TheVariants.{Object}
 use Rattle.sheet_state.specs.Places.{Adds, RefersTo}

@@ -1,5 +1,5 @@
 use Rattle.std.proofs.Common.{sym, subst, length, []}
-use Rattle.sheet_references.specs.Below.{NeverFalls}
+use Rattle.sheet_state_references.specs.Below.{NeverFalls}
 use Rattle.sheet_state.specs.Places.{Adds, OfAny, IsRowOf, IsOwnRow, RefersTo, IsHomeOf}
 use Rattle.sheet_state.proofs.Covering.{covers_objects, covers_cells, covers_extents}
 use Rattle.sheet_state.proofs.Relatives.{are_small}

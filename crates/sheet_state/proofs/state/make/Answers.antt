@@ -3,9 +3,9 @@ use Rattle.std.specs.Prelude.{slice_set}
 use Rattle.sheet_values.specs.Order.{value_cmp}
 use Rattle.sheet_values.specs.Sorted.{insert}
 use Rattle.sheet_values.specs.declared.value.Value.TheVariants.{Object}
-use Rattle.sheet_objects.specs.Rows.{with_objects, with_extents, with_counters, joined}
-use Rattle.sheet_objects.specs.declared.row.Counters.{Counters}
-use Rattle.sheet_objects.specs.declared.row.SetRow.{SetRow}
+use Rattle.sheet_state_rows.specs.Rows.{with_objects, with_extents, with_counters, joined}
+use Rattle.sheet_state_rows.specs.declared.row.Counters.{Counters}
+use Rattle.sheet_state_rows.specs.declared.row.SetRow.{SetRow}
 use Rattle.sheet_meaning.specs.WellFormed.{state_columns}
 use Rattle.sheet_state.specs.Births.{set_at, with_rows, new_object_row}
 use Rattle.sheet_state.specs.Kept.{schema_of, object_columns}

@@ -1,8 +1,8 @@
 use Rattle.std.proofs.Common.{◌∙◌, sym, ap, subst}
 use Rattle.std.specs.Prelude.{filter, List}
-use Rattle.sheet_objects.specs.declared.row.SetRow.{SetRow}
-use Rattle.sheet_references.specs.Below.{NeverFalls}
-use Rattle.sheet_references.specs.Order.{is_held}
+use Rattle.sheet_state_rows.specs.declared.row.SetRow.{SetRow}
+use Rattle.sheet_state_references.specs.Below.{NeverFalls}
+use Rattle.sheet_state_references.specs.Order.{is_held}
 use Rattle.sheet_state.specs.Places.{IsListed}
 use Rattle.sheet_state.proofs.Listed.{listed_held}
 use Rattle.sheet_state.proofs.Underneath.{never_falls}

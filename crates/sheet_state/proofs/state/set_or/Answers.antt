@@ -1,5 +1,5 @@
 use Rattle.std.proofs.Common.{sym, ap, ◌∙◌}
-use Rattle.sheet_objects.specs.declared.row.SetRow.{SetRow}
+use Rattle.sheet_state_rows.specs.declared.row.SetRow.{SetRow}
 use Rattle.sheet_state.specs.Rows.{is_set}
 use Rattle.sheet_state.proofs.Lookups.{first_at, none_at, first_read, set_found, set_missing}
 use Rattle.sheet_state.proofs.state.set_or.Goals as goal

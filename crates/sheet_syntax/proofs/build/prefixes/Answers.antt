@@ -1,6 +1,6 @@
 use Rattle.std.proofs.Common.{◌≡◌, [], ◌∷◌, ◌++◌, length, take, Some, None, sym, ap, ◌∙◌, arith, append_assoc, append-nil}
-use Rattle.sheet_trees.specs.Operators.{prefix_sign}
-use Rattle.sheet_trees.specs.Reading.{after, prefixes}
+use Rattle.sheet_syntax_trees.specs.Operators.{prefix_sign}
+use Rattle.sheet_syntax_trees.specs.Reading.{after, prefixes}
 use Rattle.sheet_syntax.proofs.Loops.{prefixes_end, prefixes_more, take_next}
 use Rattle.sheet_syntax.proofs.build.prefixes.Goals as goal
 

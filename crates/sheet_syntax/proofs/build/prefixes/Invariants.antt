@@ -1,5 +1,5 @@
 use Rattle.std.proofs.Common.{◌≡◌, ◌+◌, ◌++◌, length, take, drop}
-use Rattle.sheet_trees.specs.Reading.{prefixes, behind_prefixes}
+use Rattle.sheet_syntax_trees.specs.Reading.{prefixes, behind_prefixes}
 use Rattle.sheet_syntax.proofs.build.prefixes.Given as goal
 
 abbrev pub invariant-loop-others : goal.invariant-loop-others

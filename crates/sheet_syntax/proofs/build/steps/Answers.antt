@@ -1,8 +1,8 @@
 use Rattle.std.proofs.Common.{Bor, ◌≡◌, ◌∷◌, List, Some, sym, ap, ◌∙◌}
-use Rattle.sheet_tokens.specs.declared.token.Token.{Token}
-use Rattle.sheet_trees.specs.declared.tree.Formed.{Formed}
-use Rattle.sheet_trees.specs.declared.sign.Sign.TheVariants as sign
-use Rattle.sheet_trees.specs.Reading.{◌>>=◌, after, made, steps}
+use Rattle.sheet_syntax_trees.specs.declared.token.Token.{Token}
+use Rattle.sheet_syntax_trees.specs.declared.tree.Formed.{Formed}
+use Rattle.sheet_syntax_trees.specs.declared.sign.Sign.TheVariants as sign
+use Rattle.sheet_syntax_trees.specs.Reading.{◌>>=◌, after, made, steps}
 use Rattle.sheet_syntax.proofs.Loops.{passed, steps_end, steps_cut, steps_more, no_tokens}
 use Rattle.sheet_syntax.proofs.build.steps.Goals as goal
 

@@ -1,5 +1,5 @@
 use Rattle.std.proofs.Common.{◌≡◌, length}
-use Rattle.sheet_trees.specs.Reading.{steps}
+use Rattle.sheet_syntax_trees.specs.Reading.{steps}
 use Rattle.sheet_syntax.proofs.build.steps.Given as goal
 
 abbrev pub invariant-loop-behind : goal.invariant-loop-behind

@@ -1,5 +1,5 @@
 use Rattle.std.proofs.Common.{Ok, sym, ap, ◌∙◌}
-use Rattle.sheet_trees.specs.Reading.{made, under_prefixes}
+use Rattle.sheet_syntax_trees.specs.Reading.{made, under_prefixes}
 use Rattle.sheet_syntax.proofs.Loops.{passed, under_last, under_refused, no_tokens, same_ok}
 use Rattle.sheet_syntax.proofs.build.under_prefixes.Goals as goal
 

@@ -1,5 +1,5 @@
 use Rattle.std.proofs.Common.{◌≡◌, length, Ok}
-use Rattle.sheet_trees.specs.Reading.{under_prefixes}
+use Rattle.sheet_syntax_trees.specs.Reading.{under_prefixes}
 use Rattle.sheet_syntax.proofs.build.under_prefixes.Given as goal
 
 abbrev pub invariant-loop-token : goal.invariant-loop-token

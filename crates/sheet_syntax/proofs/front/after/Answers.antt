@@ -1,10 +1,10 @@
 use Rattle.std.proofs.Common.{◌≡◌, rules, true, Some, refl, sym, ◌∙◌, List, ◌∷◌, eq-eqb}
 use denote.Enum.Bare.{same_true}
-use Rattle.sheet_tokens.specs.declared.token.Token.{Token}
-use Rattle.sheet_trees.specs.declared.sign.Sign.{Sign}
-use Rattle.sheet_trees.specs.contracts.sign.Sign.{the_type}
-use Rattle.sheet_trees.specs.Signs.{sign_of, sign_rank, same_sign}
-use Rattle.sheet_trees.specs.Reading.{after}
+use Rattle.sheet_syntax_trees.specs.declared.token.Token.{Token}
+use Rattle.sheet_syntax_trees.specs.declared.sign.Sign.{Sign}
+use Rattle.sheet_syntax_trees.specs.contracts.sign.Sign.{the_type}
+use Rattle.sheet_syntax_trees.specs.Signs.{sign_of, sign_rank, same_sign}
+use Rattle.sheet_syntax_trees.specs.Reading.{after}
 use Rattle.sheet_syntax.proofs.front.after.Goals as goal
 
 after_some : (s : Sign) (t : Token) (ts rest : List Token) → rest ≡ t ∷ ts → sign_of t.kind ≡ s → after s rest ≡ Some ts

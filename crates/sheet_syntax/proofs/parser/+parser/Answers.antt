@@ -1,14 +1,14 @@
 use Rattle.std.proofs.Common.{Bor, ◌≡◌, ◌+◌, ◌-◌, ◌<◌, ◌≤◌, ◌∷◌, [], ◌++◌, List, length, Some, None, Ok, Err, sym, ap, ◌∙◌, subst, refl, arith}
-use Rattle.sheet_tokens.specs.declared.token.Token.{Token}
-use Rattle.sheet_trees.specs.declared.tree.Formed.{Formed}
-use Rattle.sheet_tokens.specs.declared.token.SyntaxRefusal.TheVariants.{Expected}
+use Rattle.sheet_syntax_trees.specs.declared.token.Token.{Token}
+use Rattle.sheet_syntax_trees.specs.declared.tree.Formed.{Formed}
+use Rattle.sheet_syntax_trees.specs.declared.token.SyntaxRefusal.TheVariants.{Expected}
 use Rattle.sheet_syntax.specs.declared.parser.Room.{Room}
-use Rattle.sheet_trees.specs.Signs.{sign_of}
-use Rattle.sheet_trees.specs.Operators.{operator_among}
-use Rattle.sheet_trees.specs.Reading.{setting, operand_at, chain_at, with_rest, within, parts, operation}
+use Rattle.sheet_syntax_trees.specs.Signs.{sign_of}
+use Rattle.sheet_syntax_trees.specs.Operators.{operator_among}
+use Rattle.sheet_syntax_trees.specs.Reading.{setting, operand_at, chain_at, with_rest, within, parts, operation}
 use Rattle.sheet_syntax.proofs.Loops.{passed, no_tokens}
 use Rattle.sheet_syntax.proofs.Chains.{one_less, chain_refused, chain_begun, more_out, more_end, more_other, more_refused, more_too_deep, more_on, more_once, parts_out, parts_closed, parts_refused, parts_stopped, parts_on}
-use Rattle.sheet_trees.specs.declared.operators.Level.TheVariants as level
+use Rattle.sheet_syntax_trees.specs.declared.operators.Level.TheVariants as level
 use Rattle.sheet_syntax.specs.declared.waiting.OpenIf.{OpenIf}
 use Rattle.sheet_syntax.specs.declared.waiting.Resumed.{Resumed}
 use Rattle.sheet_syntax.specs.Waiting.{resumed_by, Resumes}

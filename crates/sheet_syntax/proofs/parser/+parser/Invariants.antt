@@ -1,7 +1,7 @@
 use Rattle.std.proofs.Common.{◌≡◌, ◌+◌, ◌*◌, ◌-◌, ◌∷◌, [], length}
-use Rattle.sheet_trees.specs.Reading.{setting, more, operand_at, chain_at, parts, within}
+use Rattle.sheet_syntax_trees.specs.Reading.{setting, more, operand_at, chain_at, parts, within}
 use Rattle.sheet_syntax.specs.Waiting.{resumed_by}
-use Rattle.sheet_trees.specs.Operators.{level_rank}
+use Rattle.sheet_syntax_trees.specs.Operators.{level_rank}
 use Rattle.sheet_syntax.proofs.parser.+parser.Given as goal
 
 abbrev pub decreases-gathered : goal.decreases-gathered

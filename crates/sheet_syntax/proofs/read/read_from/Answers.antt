@@ -1,5 +1,5 @@
 use Rattle.std.proofs.Common.{◌-◌, drop, length, ap, ◌∙◌, List}
-use Rattle.sheet_tokens.specs.declared.token.Token.{Token}
+use Rattle.sheet_syntax_trees.specs.declared.token.Token.{Token}
 use Rattle.sheet_syntax.proofs.Formulas.{exact_at}
 use Rattle.sheet_syntax.proofs.read.read_from.Goals as goal
 

@@ -1,9 +1,9 @@
 use Rattle.std.proofs.Common.{Bor, ◌≡◌, [], ◌-◌, List, length, Ok, refl, subst, sym, ap, ◌∙◌}
-use Rattle.sheet_tokens.specs.declared.token.Token.{Token}
-use Rattle.sheet_trees.specs.declared.sign.Sign.TheVariants as sign
-use Rattle.sheet_trees.specs.declared.tree.Formed.{Formed}
-use Rattle.sheet_trees.specs.Reading.{expect, within}
-use Rattle.sheet_trees.proofs.Answering.{expect_ok}
+use Rattle.sheet_syntax_trees.specs.declared.token.Token.{Token}
+use Rattle.sheet_syntax_trees.specs.declared.sign.Sign.TheVariants as sign
+use Rattle.sheet_syntax_trees.specs.declared.tree.Formed.{Formed}
+use Rattle.sheet_syntax_trees.specs.Reading.{expect, within}
+use Rattle.sheet_syntax_trees.proofs.Answering.{expect_ok}
 use Rattle.sheet_syntax.specs.declared.waiting.OpenIf.{OpenIf}
 use Rattle.sheet_syntax.specs.Waiting.{resumed_by, chosen_form}
 use Rattle.sheet_syntax.proofs.Ifs.{resumes_refused, condition_read, condition_refused, branch_read, branch_refused, choice_made, choice_refused, expect_shorter}

@@ -1,7 +1,7 @@
 use Rattle.std.proofs.Common.{◌≡◌, ◌+◌, ◌≤◌, ◌∷◌, ◌∙◌, length, drop, sym, ap, subst, arith, Ok}
-use Rattle.sheet_outline.specs.Columns.{objects_in}
-use Rattle.sheet_outline.specs.Steps.{in_turn}
-use Rattle.sheet_outline.proofs.StepLemmas.{drop_item, turned}
+use Rattle.sheet_types_outline.specs.Columns.{objects_in}
+use Rattle.sheet_types_outline.specs.Steps.{in_turn}
+use Rattle.sheet_types_outline.proofs.StepLemmas.{drop_item, turned}
 use Rattle.sheet_types.specs.Elaboration.{judge}
 use Rattle.sheet_types.proofs.JudgingLemmas.{judged_grows, counted_behind}
 use Rattle.sheet_types.proofs.bodies.judge_all.Goals as goal

@@ -1,6 +1,6 @@
 use Rattle.std.proofs.Common.{◌≡◌, ◌+◌, ◌<◌, ◌≤◌, length, drop}
-use Rattle.sheet_outline.specs.Columns.{objects_in}
-use Rattle.sheet_outline.specs.Steps.{in_turn}
+use Rattle.sheet_types_outline.specs.Columns.{objects_in}
+use Rattle.sheet_types_outline.specs.Steps.{in_turn}
 use Rattle.sheet_types.specs.Elaboration.{judge, no_bodies}
 use Rattle.sheet_types.proofs.bodies.judge_all.Given as goal
 

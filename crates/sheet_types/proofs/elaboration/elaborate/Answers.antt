@@ -1,5 +1,5 @@
 use Rattle.std.proofs.Common.{◌<◌, ◌∙◌, length, sym, subst}
-use Rattle.sheet_outline.specs.Columns.{objects_in}
+use Rattle.sheet_types_outline.specs.Columns.{objects_in}
 use Rattle.sheet_types.specs.Elaboration.{last_kinds, book_of}
 use Rattle.sheet_types.proofs.BookLemmas.{formulas_fit, objects_fit, made_by}
 use Rattle.sheet_types.proofs.elaboration.elaborate.Goals as goal

@@ -4,7 +4,7 @@ use Rattle.std.specs.List.{AllByRecursion}
 use Rattle.std.proofs.lemmas.List.{map-append}
 use Rattle.sheet_meaning.specs.Changes.{without_object, family}
 use Rattle.sheet_meaning.specs.Workbook.{object_at}
-use Rattle.sheet_references.specs.Below.{NeverFalls, Descends, IsFamily}
+use Rattle.sheet_state_references.specs.Below.{NeverFalls, Descends, IsFamily}
 use Rattle.sheet_state.specs.Deaths.{rid_of}
 use Rattle.sheet_state.specs.Kept.{IsKept, IsMoment, AreChanged}
 use Rattle.sheet_state.specs.Places.{IsListed}

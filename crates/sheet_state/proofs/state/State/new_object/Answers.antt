@@ -4,9 +4,9 @@ use Rattle.std.specs.List.{AllByRecursion}
 use Rattle.std.proofs.lemmas.List.{map-append}
 use Rattle.sheet_columns.specs.Tree.{above_of}
 use Rattle.sheet_columns.specs.declared.tree.Node.{Node}
-use Rattle.sheet_objects.specs.declared.row.Counters.{Counters}
-use Rattle.sheet_objects.specs.declared.row.SetRow.{SetRow}
-use Rattle.sheet_objects.specs.Rows.{Table}
+use Rattle.sheet_state_rows.specs.declared.row.Counters.{Counters}
+use Rattle.sheet_state_rows.specs.declared.row.SetRow.{SetRow}
+use Rattle.sheet_state_rows.specs.Rows.{Table}
 use Rattle.sheet_meaning.specs.Changes.{with_object}
 use Rattle.sheet_meaning.specs.WellFormed.{state_columns}
 use Rattle.sheet_meaning.specs.Workbook.{object_at, column_in}

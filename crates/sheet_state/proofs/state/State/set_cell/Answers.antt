@@ -2,9 +2,9 @@ use Rattle.std.proofs.Common.{◌≡◌, true, false, ◌∙◌, refl, sym, ap, 
 use Rattle.std.specs.Prelude.{position, slice_set, map, IsSome, List}
 use Rattle.std.specs.List.{AllByRecursion}
 use Rattle.std.proofs.lemmas.List.{map-append}
-use Rattle.sheet_objects.specs.declared.row.Counters.{Counters}
-use Rattle.sheet_objects.specs.declared.row.SetRow.{SetRow}
-use Rattle.sheet_objects.specs.Rows.{with_cells, with_counters}
+use Rattle.sheet_state_rows.specs.declared.row.Counters.{Counters}
+use Rattle.sheet_state_rows.specs.declared.row.SetRow.{SetRow}
+use Rattle.sheet_state_rows.specs.Rows.{with_cells, with_counters}
 use Rattle.sheet_columns.specs.Tree.{above_of, column_of}
 use Rattle.sheet_meaning.specs.Changes.{with_set}
 use Rattle.sheet_meaning.specs.WellFormed.{HoldsKind, max_values}

@@ -1,5 +1,0 @@
-use Rattle.sheet_beginnings.proofs.Texts.{refused_for_nesting}
-use Rattle.sheet_beginnings.proofs.law.what_is_refused_for_nesting_is_nested_too_deeply.Goals as goal
-
-pub returns : goal.returns
-returns c = refused_for_nesting

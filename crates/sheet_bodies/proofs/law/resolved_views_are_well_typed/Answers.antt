@@ -1,5 +1,0 @@
-use Rattle.sheet_bodies.proofs.Whole.{views_fit}
-use Rattle.sheet_bodies.proofs.law.resolved_views_are_well_typed.Goals as goal
-
-pub returns : goal.returns
-returns c = views_fit (record { has = c.typed_formulas_have_their_kinds.ensures })

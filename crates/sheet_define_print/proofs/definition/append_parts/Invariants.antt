@@ -1,0 +1,7 @@
+use Rattle.std.proofs.Common.{◌≡◌, ◌++◌, take, []}
+use Rattle.std.specs.List.{flat_map}
+use Rattle.sheet_define_data.specs.Printing.{part_text, inside}
+use Rattle.sheet_define_print.proofs.definition.append_parts.Given as goal
+
+abbrev pub invariant-loop-part : goal.invariant-loop-part
+invariant-loop-part l = l.out.items ≡ l.fn.out.items ++ flat_map (part_text (inside [])) (take l.part-index l.parts)

@@ -1,5 +1,0 @@
-use Rattle.sheet_definitions.proofs.Printed as printed
-use Rattle.sheet_definitions.proofs.club_is_printed.Goals as goal
-
-pub returns : goal.returns
-returns c = printed.club_is_printed

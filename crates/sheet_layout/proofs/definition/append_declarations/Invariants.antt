@@ -1,9 +1,0 @@
-use Rattle.std.proofs.Common.{◌≡◌, ◌++◌, length}
-use Rattle.sheet_definitions.specs.Printing.{declarations_text}
-use Rattle.sheet_layout.proofs.definition.append_declarations.Given as goal
-
-abbrev pub decreases-loop-declaration : goal.decreases-loop-declaration
-decreases-loop-declaration l = length l.rest
-
-abbrev pub invariant-loop-declaration : goal.invariant-loop-declaration
-invariant-loop-declaration l = l.out.items ++ declarations_text l.«open» l.rest ≡ l.fn.out.items ++ declarations_text 0 l.declarations

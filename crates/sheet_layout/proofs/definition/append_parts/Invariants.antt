@@ -1,7 +1,0 @@
-use Rattle.std.proofs.Common.{◌≡◌, ◌++◌, take, []}
-use Rattle.std.specs.List.{flat_map}
-use Rattle.sheet_definitions.specs.Printing.{part_text, inside}
-use Rattle.sheet_layout.proofs.definition.append_parts.Given as goal
-
-abbrev pub invariant-loop-part : goal.invariant-loop-part
-invariant-loop-part l = l.out.items ≡ l.fn.out.items ++ flat_map (part_text (inside [])) (take l.part-index l.parts)

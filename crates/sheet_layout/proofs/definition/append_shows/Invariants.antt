@@ -1,7 +1,0 @@
-use Rattle.std.proofs.Common.{◌≡◌, ◌++◌, take}
-use Rattle.std.specs.List.{flat_map}
-use Rattle.sheet_definitions.specs.Printing.{show_text}
-use Rattle.sheet_layout.proofs.definition.append_shows.Given as goal
-
-abbrev pub invariant-loop-show : goal.invariant-loop-show
-invariant-loop-show l = l.out.items ≡ l.fn.out.items ++ flat_map (show_text l.margin) (take l.show-index l.shows)

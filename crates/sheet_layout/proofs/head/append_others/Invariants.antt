@@ -1,8 +1,0 @@
-use Rattle.std.proofs.Common.{◌≡◌, ◌++◌, take}
-use Rattle.std.specs.Prelude.{codes}
-use Rattle.std.specs.List.{flat_map}
-use Rattle.sheet_definitions.specs.Printing.{parameter_text}
-use Rattle.sheet_layout.proofs.head.append_others.Given as goal
-
-abbrev pub invariant-loop-parameter : goal.invariant-loop-parameter
-invariant-loop-parameter l = l.out.items ≡ l.fn.out.items ++ flat_map (λ p. codes ", " ++ parameter_text p) (take l.parameter-index l.parameters)

@@ -1,8 +1,0 @@
-use Rattle.std.proofs.Common.{take, []}
-use Rattle.std.specs.List.{flat_map}
-use Rattle.sheet_definitions.specs.Printing.{part_text, inside}
-use Rattle.sheet_lengths.specs.Counting.{Counts}
-use Rattle.sheet_lengths.proofs.definition.count_parts.Given as goal
-
-abbrev pub invariant-loop-part : goal.invariant-loop-part
-invariant-loop-part l = Counts l.total l.sum (flat_map (part_text (inside [])) (take l.part-index l.parts))

@@ -1,5 +1,0 @@
-use Rattle.sheet_outline.proofs.WithinLemmas.{outlines_within}
-use Rattle.sheet_outline.proofs.law.outlines_are_within.Goals as goal
-
-pub returns : goal.returns
-returns c = outlines_within

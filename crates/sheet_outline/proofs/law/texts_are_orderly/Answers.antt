@@ -1,5 +1,0 @@
-use Rattle.sheet_outline.proofs.OrderlyTexts.{texts_orderly}
-use Rattle.sheet_outline.proofs.law.texts_are_orderly.Goals as goal
-
-pub returns : goal.returns
-returns c = texts_orderly

@@ -1,5 +1,0 @@
-use Rattle.sheet_reading.proofs.WholeCompleteness.{whole_given}
-use Rattle.sheet_reading.proofs.law.what_stands_there_is_read.Goals as goal
-
-pub returns : goal.returns
-returns c = whole_given

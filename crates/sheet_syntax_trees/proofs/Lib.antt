@@ -1,0 +1,17 @@
+pub mod Answering
+pub mod Binding
+pub mod Completeness
+pub mod Contexts
+pub mod Digits
+pub mod FrontLemmas
+pub mod Locality
+pub mod Ordered
+pub mod Printable
+pub mod Refusing
+pub mod RunLemmas
+pub mod Seeing
+pub mod SignLemmas
+pub mod Soundness
+pub mod Stopping
+pub mod TextLemmas
+pub mod Turning

@@ -1,0 +1,15 @@
+pub mod Bytes
+pub mod Gives
+pub mod Grammar
+pub mod Lexing
+pub mod Operators
+pub mod Order
+pub mod Printing
+pub mod Reading
+pub mod Refusals
+pub mod Runs
+pub mod Signs
+pub mod Texts
+pub mod TokenList
+pub mod Tokens
+pub mod Words

@@ -1,6 +1,0 @@
-use Rattle.sheet_tokens.specs.Tokens.{is_reserved}
-use Rattle.sheet_tokens.proofs.scan.is_reserved.Goals as goal
-
-pub returns : goal.returns
-unfolding is_reserved
-returns c = c.contains_word.ensures

@@ -1,6 +1,0 @@
-use Rattle.sheet_tokens.specs.Bytes.{is_in_word}
-use Rattle.sheet_tokens.proofs.RunLemmas.{run_ascii, in_word_ascii}
-use Rattle.sheet_tokens.proofs.scan.scan_front.Goals as goal
-
-pub scan_word-requires : goal.scan_word-requires
-scan_word-requires c = λ i. rw (c.split_at.ensures.front, c.run_length.ensures.value) (run_ascii is_in_word in_word_ascii c.args.rest.now i)

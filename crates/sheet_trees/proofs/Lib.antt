@@ -1,9 +1,0 @@
-pub mod Answering
-pub mod Binding
-pub mod Completeness
-pub mod Contexts
-pub mod Locality
-pub mod Refusing
-pub mod SignLemmas
-pub mod Soundness
-pub mod Stopping

@@ -1,5 +1,0 @@
-use Rattle.sheet_trees.proofs.Locality.{blocked}
-use Rattle.sheet_trees.proofs.law.refused_tokens_begin_no_formula.Goals as goal
-
-pub returns : goal.returns
-returns c = blocked

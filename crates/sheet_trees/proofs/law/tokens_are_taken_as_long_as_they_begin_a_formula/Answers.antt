@@ -1,5 +1,0 @@
-use Rattle.sheet_trees.proofs.Locality.{taken}
-use Rattle.sheet_trees.proofs.law.tokens_are_taken_as_long_as_they_begin_a_formula.Goals as goal
-
-pub returns : goal.returns
-returns c = taken

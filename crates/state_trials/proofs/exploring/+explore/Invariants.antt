@@ -1,4 +1,0 @@
-use Rattle.state_trials.proofs.exploring.+explore.Given as goal
-
-abbrev pub decreases-explore : goal.decreases-explore
-decreases-explore l = l.depth
