@@ -1,5 +1,5 @@
 -- A tree in which a column holds something else.
-use Rattle.std.proofs.Common.{◌≡◌, ℕ, ◌+◌, ◌<◌, ◌≤◌, zero, suc, Bool, true, false, List, [], ◌∷◌, length, map, Option, Some, None, refl, sym, ap, ◌∙◌, subst, inl, inr, arith}
+use Rattle.std.proofs.Common.{◌≡◌, ℕ, ◌+◌, ◌<◌, ◌≤◌, zero, suc, Bool, true, List, [], ◌∷◌, length, map, Option, Some, None, refl, sym, ap, ◌∙◌, subst, arith}
 use Rattle.std.specs.Prelude.{codes, slice_get, slice_set, option_map, option_and_then, unwrap_or}
 use Rattle.std.proofs.lemmas.List.{length-map}
 use Rattle.std.proofs.lemmas.Option.{slice_get_within}
@@ -81,7 +81,8 @@ module _ {A : Type 0} (start : A) (next : A → Node → A) (fair : (a : A) (m n
       let is : like.0 ≡ n = cc in
       at (subst (IsLike m) is like.2)
     where
-      under : (o : Option ℕ) → IsLike m n → unwrap_or (option_map (λ above. next (r above) m) o) start ≡ unwrap_or (option_map (λ above. next (s above) n) o) start
+      under : (o : Option ℕ) → IsLike m n
+          → unwrap_or (option_map (λ above. next (r above) m) o) start ≡ unwrap_or (option_map (λ above. next (s above) n) o) start
       under None like = refl
       under (Some a) like = ap (λ v. next v m) (same a) ∙ fair (s a) m n like
 
@@ -126,7 +127,8 @@ tree_like ms ns like tree fitting = record {
     under c None u = u
     under c (Some a) u = (u.0, like_object ms ns like a u.1)
 
-some_within : (nodes : List Node) (c : ℕ) (o : Option Node) (b : Bool) → slice_get nodes c ≡ o → option_map (λ (n : Node). holds_objects n.column) o ≡ Some b → c < length nodes
+some_within : (nodes : List Node) (c : ℕ) (o : Option Node) (b : Bool) → slice_get nodes c ≡ o → option_map (λ (n : Node). holds_objects n.column) o ≡ Some b
+    → c < length nodes
 some_within nodes c None b got e = cc
 some_within nodes c (Some n) b got e = slice_get_within nodes c n got
 
@@ -144,13 +146,15 @@ set_is [] c n x got = cc
 set_is (m ∷ nodes) zero n x got = let same : n ≡ m = cc in ap (λ (k : Node). holding k x ∷ nodes) same
 set_is (m ∷ nodes) (suc c) n x got = ap (λ t. m ∷ t) (set_is nodes c n x got)
 
-changed_same : (nodes : List Node) (c : ℕ) (x : Column) → option_map holds_objects (column_of nodes c) ≡ Some (holds_objects x) → map shape (with_column nodes c x) ≡ map shape nodes
+changed_same : (nodes : List Node) (c : ℕ) (x : Column) → option_map holds_objects (column_of nodes c) ≡ Some (holds_objects x)
+    → map shape (with_column nodes c x) ≡ map shape nodes
 changed_same [] c x alike = refl
 changed_same (n ∷ nodes) zero x alike =
     let e : holds_objects n.column ≡ holds_objects x = cc in ap (λ b. (n.above, n.name, b) ∷ map shape nodes) (sym e)
 changed_same (n ∷ nodes) (suc c) x alike = ap (λ t. shape n ∷ t) (changed_same nodes c x alike)
 
-pub changed_like : (nodes : List Node) (c : ℕ) (x : Column) → option_map holds_objects (column_of nodes c) ≡ Some (holds_objects x) → AreLike (with_column nodes c x) nodes
+pub changed_like : (nodes : List Node) (c : ℕ) (x : Column) → option_map holds_objects (column_of nodes c) ≡ Some (holds_objects x)
+    → AreLike (with_column nodes c x) nodes
 changed_like nodes c x alike = record { same = changed_same nodes c x alike }
 
 changed_fitting : (nodes : List Node) (c : ℕ) (x : Column) → HasFittingFirst x → ((k : ℕ) (n : Node) → slice_get nodes k ≡ Some n → HasFittingFirst n.column)
@@ -162,6 +166,7 @@ changed_fitting (n ∷ nodes) (suc c) x here olds zero m got = olds 0 m got
 changed_fitting (n ∷ nodes) (suc c) x here olds (suc k) m got = changed_fitting nodes c x here (λ j. olds (suc j)) k m got
 
 -- a tree in which a column holds something else of its sort is a tree
-pub tree_set : (nodes : List Node) → IsTree nodes → (c : ℕ) (x : Column) → option_map holds_objects (column_of nodes c) ≡ Some (holds_objects x) → HasFittingFirst x → IsTree (with_column nodes c x)
+pub tree_set : (nodes : List Node) → IsTree nodes → (c : ℕ) (x : Column) → option_map holds_objects (column_of nodes c) ≡ Some (holds_objects x)
+    → HasFittingFirst x → IsTree (with_column nodes c x)
 tree_set nodes tree c x alike fitting =
     tree_like (with_column nodes c x) nodes (changed_like nodes c x alike) tree (changed_fitting nodes c x fitting tree.fitting)

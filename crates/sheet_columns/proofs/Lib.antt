@@ -1,2 +1,3 @@
+pub mod ChildLemmas
 pub mod ContentLemmas
 pub mod TreeLemmas

@@ -1,5 +1,6 @@
 -- Ways down the tree, and what an added column leaves as it was.
-use Rattle.std.proofs.Common.{◌≡◌, ℕ, ◌+◌, ◌<◌, ◌≤◌, zero, suc, Bool, true, false, cond, List, [], ◌∷◌, ◌++◌, length, Option, Some, None, refl, sym, ap, ◌∙◌, subst, inl, inr, arith, length-append, eq-eqb, ◌*◌, append_assoc}
+use Rattle.std.proofs.Common.{◌≡◌, ℕ, ◌+◌, ◌<◌, ◌≤◌, zero, suc, Bool, true, false, cond, List, [], ◌∷◌, ◌++◌, length, Option, Some, None, refl, sym}
+use Rattle.std.proofs.Common.{ap, ◌∙◌, subst, inl, inr, arith, length-append, eq-eqb, ◌*◌, append_assoc}
 use Rattle.std.specs.Prelude.{codes, ◌⊎◌, ◌==◌, slice_get, bytes_eq, option_map, option_and_then, unwrap_or}
 use Rattle.std.specs.List.{position_from, join_with_byte}
 use Rattle.std.proofs.lemmas.Iterator.Adapters.{position_from-zero}
@@ -78,7 +79,8 @@ module _ {A : Type 0} (start : A) (next : A → Node → A) where
       (λ n a got is. let lt = b.earlier c n a got is in going_more nodes b f g a (omega arith) (omega arith))
 
   -- at a column below the root
-  pub going_at : (nodes : List Node) → IsBackward nodes → (c : ℕ) (n : Node) (a : ℕ) → slice_get nodes c ≡ Some n → n.above ≡ Some a → going_down start next c nodes c ≡ next (going_down start next a nodes a) n
+  pub going_at : (nodes : List Node) → IsBackward nodes → (c : ℕ) (n : Node) (a : ℕ) → slice_get nodes c ≡ Some n → n.above ≡ Some a
+      → going_down start next c nodes c ≡ next (going_down start next a nodes a) n
   going_at nodes b zero n a got is = let lt = b.earlier 0 n a got is in absurd (omega arith)
   going_at nodes b (suc f) n a got is =
       let lt = b.earlier (suc f) n a got is in
@@ -93,7 +95,8 @@ module _ {A : Type 0} (start : A) (next : A → Node → A) where
       ap (step (going_down start next f nodes)) got ∙ ap (λ o. unwrap_or (option_map (λ above. next (going_down start next f nodes above) n) o) start) is
 
   -- later columns change nothing
-  pub going_push : (nodes : List Node) → IsBackward nodes → (x : Node) (f c : ℕ) → c < length nodes → going_down start next f (nodes ++ x ∷ []) c ≡ going_down start next f nodes c
+  pub going_push : (nodes : List Node) → IsBackward nodes → (x : Node) (f c : ℕ) → c < length nodes
+      → going_down start next f (nodes ++ x ∷ []) c ≡ going_down start next f nodes c
   going_push nodes b x zero c lt = refl
   going_push nodes b x (suc f) c lt =
       ap (step (going_down start next f (nodes ++ x ∷ []))) (get_old nodes (x ∷ []) c lt)
@@ -172,7 +175,8 @@ module _ (nodes : List Node) (tree : IsTree nodes) (x : Node) (above : ℕ) (is 
       let yes : is_child_named above x.name m ≡ true = rw (same_above ∙ is, same_name, same_number above, same_bytes x.name) refl in
       cc
 
-  distinct : (b c : ℕ) (m n : Node) → slice_get (nodes ++ x ∷ []) b ≡ Some m → slice_get (nodes ++ x ∷ []) c ≡ Some n → m.above ≡ n.above → m.name ≡ n.name → b ≡ c
+  distinct : (b c : ℕ) (m n : Node) → slice_get (nodes ++ x ∷ []) b ≡ Some m → slice_get (nodes ++ x ∷ []) c ≡ Some n → m.above ≡ n.above → m.name ≡ n.name
+      → b ≡ c
   distinct b c m n got_m got_n same_above same_name =
       elim (get_push nodes x b m got_m) [
         | inl old_m ↦ elim (get_push nodes x c n got_n) [
@@ -180,7 +184,8 @@ module _ (nodes : List Node) (tree : IsTree nodes) (x : Node) (above : ℕ) (is 
           | inr new_n ↦ absurd (apart b m old_m (same_above ∙ ap (λ (k : Node). k.above) (sym new_n.1)) (same_name ∙ ap (λ (k : Node). k.name) (sym new_n.1)))
         ]
         | inr new_m ↦ elim (get_push nodes x c n got_n) [
-          | inl old_n ↦ absurd (apart c n old_n (sym same_above ∙ ap (λ (k : Node). k.above) (sym new_m.1)) (sym same_name ∙ ap (λ (k : Node). k.name) (sym new_m.1)))
+          | inl old_n ↦ absurd (apart c n old_n (sym same_above ∙ ap (λ (k : Node). k.above) (sym new_m.1)) (sym same_name
+              ∙ ap (λ (k : Node). k.name) (sym new_m.1)))
           | inr new_n ↦ new_m.0 ∙ sym new_n.0
         ]
       ]
@@ -211,16 +216,20 @@ join_long (x ∷ xs) y short =
     let e = ap length (join_more xs x y) ∙ length-append (join_with_byte 46 (x ∷ xs)) (46 ∷ y) in
     omega arith
 
-joined_step : (names : ℕ → List (List ℕ)) (deep : ℕ → ℕ) (o : Option Node) → ((n : Node) → o ≡ Some n → length n.name ≤ 63) → ((a : ℕ) → length (join_with_byte 46 (names a)) ≤ 64 * deep a) → length (join_with_byte 46 (step [] (λ above (n : Node). above ++ n.name ∷ []) names o)) ≤ 64 * step 0 (λ d (n : Node). d + 1) deep o
+joined_step : (names : ℕ → List (List ℕ)) (deep : ℕ → ℕ) (o : Option Node) → ((n : Node) → o ≡ Some n → length n.name ≤ 63)
+    → ((a : ℕ) → length (join_with_byte 46 (names a)) ≤ 64 * deep a)
+    → length (join_with_byte 46 (step [] (λ above (n : Node). above ++ n.name ∷ []) names o)) ≤ 64 * step 0 (λ d (n : Node). d + 1) deep o
 joined_step names deep None short so_far = omega arith
 joined_step names deep (Some n) short so_far =
-    elim n.above as (λ o. length (join_with_byte 46 (unwrap_or (option_map (λ a. names a ++ n.name ∷ []) o) [])) ≤ 64 * unwrap_or (option_map (λ a. deep a + 1) o) 0) [
+    elim n.above as (λ o. length (join_with_byte 46 (unwrap_or (option_map (λ a. names a ++ n.name ∷ []) o) [])) ≤ 64 * unwrap_or
+    (option_map (λ a. deep a + 1) o) 0) [
       | None ↦ omega arith
       | Some a ↦ let more = join_long (names a) n.name (short n refl) in let before = so_far a in omega arith
     ]
 
 -- the names on the way, joined, have at most 64 bytes for each column on the way
-joined_short : (nodes : List Node) → IsTree nodes → (f c : ℕ) → length (join_with_byte 46 (going_down [] (λ names (n : Node). names ++ n.name ∷ []) f nodes c)) ≤ 64 * going_down 0 (λ d (n : Node). d + 1) f nodes c
+joined_short : (nodes : List Node) → IsTree nodes → (f c : ℕ)
+    → length (join_with_byte 46 (going_down [] (λ names (n : Node). names ++ n.name ∷ []) f nodes c)) ≤ 64 * going_down 0 (λ d (n : Node). d + 1) f nodes c
 joined_short nodes tree zero c = omega arith
 joined_short nodes tree (suc f) c = joined_step _ _ (slice_get nodes c) (tree.short c) (joined_short nodes tree f)
 
@@ -236,27 +245,33 @@ path_root nodes tree c n got is = let first : c ≡ 0 = subst (IsUnder nodes c) 
 
 pub path_top : (nodes : List Node) → IsTree nodes → (c : ℕ) (n : Node) → slice_get nodes c ≡ Some n → n.above ≡ Some 0 → path nodes c ≡ n.name
 path_top nodes tree zero n got is = let lt = (backward nodes tree).earlier 0 n 0 got is in absurd (omega arith)
-path_top nodes tree (suc c) n got is = ap (join_with_byte 46) (going_at [] (λ names (n : Node). names ++ n.name ∷ []) nodes (backward nodes tree) (suc c) n 0 got is)
+path_top nodes tree (suc c) n got is =
+    ap (join_with_byte 46) (going_at [] (λ names (n : Node). names ++ n.name ∷ []) nodes (backward nodes tree) (suc c) n 0 got is)
 
 -- the names down to a column below the root end with its own
-names_at : (nodes : List Node) → IsTree nodes → (a : ℕ) → (column_of nodes (suc a) ≡ Some Object) → (front : List (List ℕ)) × (name : List ℕ) × (names_down_to nodes (suc a) ≡ front ++ name ∷ [])
+names_at : (nodes : List Node) → IsTree nodes → (a : ℕ) → (column_of nodes (suc a) ≡ Some Object)
+    → (front : List (List ℕ)) × (name : List ℕ) × (names_down_to nodes (suc a) ≡ front ++ name ∷ [])
 names_at nodes tree a object = at (slice_get nodes (suc a)) refl object
   where
-    under : (m : Node) (o : Option ℕ) → slice_get nodes (suc a) ≡ Some m → m.above ≡ o → IsUnder nodes (suc a) o → (front : List (List ℕ)) × (name : List ℕ) × (names_down_to nodes (suc a) ≡ front ++ name ∷ [])
+    under : (m : Node) (o : Option ℕ) → slice_get nodes (suc a) ≡ Some m → m.above ≡ o → IsUnder nodes (suc a) o
+        → (front : List (List ℕ)) × (name : List ℕ) × (names_down_to nodes (suc a) ≡ front ++ name ∷ [])
     under m None got e u = absurd (omega arith)
     under m (Some b) got e u =
         (names_down_to nodes b, m.name, going_at [] (λ names (n : Node). names ++ n.name ∷ []) nodes (backward nodes tree) (suc a) m b got e)
 
-    at : (o : Option Node) → slice_get nodes (suc a) ≡ o → option_map (λ (n : Node). n.column) o ≡ Some Object → (front : List (List ℕ)) × (name : List ℕ) × (names_down_to nodes (suc a) ≡ front ++ name ∷ [])
+    at : (o : Option Node) → slice_get nodes (suc a) ≡ o → option_map (λ (n : Node). n.column) o ≡ Some Object
+        → (front : List (List ℕ)) × (name : List ℕ) × (names_down_to nodes (suc a) ≡ front ++ name ∷ [])
     at None got e = cc
     at (Some m) got e = under m m.above got refl (tree.placed (suc a) m got)
 
-pub path_below : (nodes : List Node) → IsTree nodes → (c : ℕ) (n : Node) (a : ℕ) → slice_get nodes c ≡ Some n → n.above ≡ Some a → 0 < a → path nodes c ≡ path nodes a ++ 46 ∷ n.name
+pub path_below : (nodes : List Node) → IsTree nodes → (c : ℕ) (n : Node) (a : ℕ) → slice_get nodes c ≡ Some n → n.above ≡ Some a → 0 < a
+    → path nodes c ≡ path nodes a ++ 46 ∷ n.name
 path_below nodes tree zero n a got is positive = let lt = (backward nodes tree).earlier 0 n a got is in absurd (omega arith)
 path_below nodes tree (suc c) n zero got is positive = absurd (omega arith)
 path_below nodes tree (suc c) n (suc a) got is positive =
     let object = (subst (IsUnder nodes (suc c)) is (tree.placed (suc c) n got)).1 in
     let last = names_at nodes tree a object in
-    ap (join_with_byte 46) (going_at [] (λ names (n : Node). names ++ n.name ∷ []) nodes (backward nodes tree) (suc c) n (suc a) got is ∙ ap (λ ns. ns ++ n.name ∷ []) last.2)
+    ap (join_with_byte 46) (going_at [] (λ names (n : Node). names ++ n.name ∷ []) nodes (backward nodes tree) (suc c) n (suc a) got is
+    ∙ ap (λ ns. ns ++ n.name ∷ []) last.2)
     ∙ join_push last.0 last.1 n.name
     ∙ ap (λ ns. join_with_byte 46 ns ++ 46 ∷ n.name) (sym last.2)

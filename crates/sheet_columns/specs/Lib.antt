@@ -1,3 +1,5 @@
+pub mod Cells
+pub mod Children
 pub mod Contents
 pub mod ItemOrder
 pub mod Statements

@@ -1,10 +1,11 @@
 // The tree of columns.
-ghost use Rattle.std.specs.Prelude.{◌≡◌, ◌<◌, ◌≤◌, ◌+◌, ◌↔◌, ◌++◌, ◌∷◌, [], length, Some, None, Err, IfOk, IfSome, OnOk, OnErr, ℕ, option_map, string_bytes};
+ghost use Rattle.std.specs.Prelude.{◌≡◌, ◌<◌, ◌≤◌, ◌+◌, ◌↔◌, ◌++◌, ◌∷◌, [], length, Some, None, Err, IfOk, OnOk, OnErr, ℕ, option_map, string_bytes};
 ghost use Rattle.sheet_columns.specs.Contents.{holds_objects, with_column};
-ghost use Rattle.sheet_columns.specs.Tree.{root, column_of, name_of, above_of, is_child_named, child_named, depth, path, HasFittingFirst, IsTree};
+ghost use Rattle.sheet_columns.specs.Tree.{root, column_of, name_of, above_of, child_named, depth, path, HasFittingFirst, IsTree};
 
+use crate::children::Children;
 use sheet_values::{Kind, Name, NoMemory, Value};
-use std::alloc::{AllocFailed, Global};
+use std::alloc::Global;
 use std::marker::Model;
 
 /// What a column holds.
@@ -36,13 +37,13 @@ pub enum ColumnRefusal {
     NoMemory,
 }
 
-impl<T: Drop> From<AllocFailed<T>> for ColumnRefusal {
+impl From<NoMemory> for ColumnRefusal {
     ghost use Rattle.std.specs.Prelude.{◌≡◌};
     ghost use Rattle.sheet_columns.specs.declared.tree.ColumnRefusal.TheVariants as refused;
 
     ghost from_gives = { λ _ refusal. refusal ≡ refused.NoMemory };
 
-    fn from(_: AllocFailed<T>) -> ColumnRefusal {
+    fn from(_: NoMemory) -> ColumnRefusal {
         ColumnRefusal::NoMemory
     }
 }
@@ -60,30 +61,24 @@ struct Node {
     column: Column,
 }
 
-impl Node {
-    fn is_child_named(&self, above: u32, name: &[u8]) -> bool
-        ensures { result ≡ is_child_named above name.now self.now }
-    {
-        self.above == Some(above) && self.name.bytes() == name
-    }
-}
-
 /// The tree of columns. The root has the number 0, and the others are numbered in the order of their coming.
 #[derive(Debug, Drop)]
 pub struct Columns {
     nodes: Vec<Node>,
+    children: Children,
 }
 
 impl Model for Columns {
     ghost use Rattle.std.specs.Prelude.{List};
     ghost use Rattle.sheet_columns.specs.declared.tree.Node.{Node as TheNode};
+    ghost use Rattle.sheet_columns.specs.Children.{AreChildren};
     ghost use Rattle.sheet_columns.specs.Tree.{IsTree};
 
     ghost Value = { List TheNode };
 
     ghost view = { λ c. c.nodes.items };
 
-    ghost invariant = { λ c. IsTree c.nodes.items };
+    ghost invariant = { λ c. IsTree c.nodes.items × AreChildren c.children c.nodes.items };
 }
 
 impl Columns {
@@ -97,7 +92,10 @@ impl Columns {
             name: Name::of(alloc, "$")?,
             column: Column::Object,
         })?;
-        Ok(Columns { nodes })
+        Ok(Columns {
+            nodes,
+            children: Children::new(alloc)?,
+        })
     }
 
     /// Adds a column directly under the object column `above`, and gives its number, which is the old count. The name has at
@@ -131,13 +129,32 @@ impl Columns {
         if number >= MAX_COLUMNS {
             return Err(ColumnRefusal::TooMany);
         }
-        let node = Node {
+        self.push(above, name, column)?;
+        Ok(number)
+    }
+
+    // Adds the column at the end of the list, and its name to those under `above`.
+    fn push(&mut self, above: u32, name: Name, column: Column) -> Result<(), NoMemory>
+        requires above_object { column_of self.old above ≡ Some Column.Object }
+        requires free { child_named self.old above name ≡ None }
+        requires shallow { depth self.old above < 8 }
+        requires few { length self.old < 1000 }
+        requires short { length name ≤ 63 }
+        requires fitting { HasFittingFirst column }
+        ensures ok { OnOk result
+            (self.new ≡ self.old ++ record { above = Some above; name = name; column = column } ∷ []) }
+        ensures err { OnErr result (self.new ≡ self.old) }
+    {
+        let bytes = Vec::from_slice(*self.nodes.allocator(), name.bytes())?;
+        let number = self.nodes.len() as u32;
+        self.nodes.reserve(1)?;
+        self.children.add(above, bytes, number)?;
+        self.nodes.push_reserved(Node {
             above: Some(above),
             name,
             column,
-        };
-        self.nodes.push(node)?;
-        Ok(number)
+        });
+        Ok(())
     }
 
     /// Changes what a column holds. An object column holds objects still, and no other column does. A first value is of the
@@ -189,14 +206,11 @@ impl Columns {
         }
     }
 
-    /// The column that stands directly under `above` and has the name.
+    /// The column that stands directly under `above` and has the name. It takes no memory.
     pub fn child_named(&self, above: u32, name: &[u8]) -> Option<u32>
         ensures { result ≡ child_named self.now above name.now }
     {
-        match place_of_child(self.nodes.as_slice(), above, name) {
-            Some(place) => Some(place as u32),
-            None => None,
-        }
+        self.children.find(above, name)
     }
 
     /// The names from below the root, joined by dots; `$` for the root.
@@ -208,15 +222,6 @@ impl Columns {
         let text = path_of(alloc, self.nodes.as_slice(), column as usize)?;
         Name::of(alloc, text.as_str())
     }
-}
-
-fn place_of_child(nodes: &[Node], above: u32, name: &[u8]) -> Option<usize>
-    ensures child { result ≡ child_named nodes.now above name.now }
-    ensures within { IfSome result (λ place. place < length nodes.now) }
-{
-    nodes
-        .iter()
-        .position(|node| node.is_child_named(above, name))
 }
 
 // How many columns below the root the column stands.

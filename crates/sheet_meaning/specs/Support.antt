@@ -1,7 +1,8 @@
 -- The formula cells that are reached from what is used, and the support: the items that it rests on.
-use Rattle.std.specs.Prelude.{◌≡◌, ◌↔◌, true, ℕ, zero, suc, Bool, ◌==◌, ◌&&◌, if◌then◌else◌, List, [], ◌∷◌, ◌++◌, fold, Option, Some, None}
-use Rattle.std.specs.List.{list_any, flat_map, filter_map}
+use Rattle.std.specs.Prelude.{◌≡◌, ◌↔◌, true, ℕ, zero, suc, ◌==◌, ◌&&◌, if◌then◌else◌, List, [], ◌∷◌, ◌++◌, fold, Option, Some, None}
+use Rattle.std.specs.List.{flat_map, filter_map}
 use Rattle.sheet_values.specs.Sorted.{insert}
+pub use Rattle.sheet_columns.specs.Cells.{Cell, is_cell, has_cell, with_cell, with_cells}
 use Rattle.sheet_columns.specs.ItemOrder.{item_cmp}
 use Rattle.sheet_columns.specs.declared.item.Item.{Item}
 use Rattle.sheet_columns.specs.declared.item.Item.TheVariants.{Live}
@@ -13,23 +14,6 @@ use Rattle.sheet_meaning.specs.Formula.{Variables}
 use Rattle.sheet_meaning.specs.Workbook.{FormulaCell, formula_cells}
 use Rattle.sheet_meaning.specs.Rounds.{run_cell, settled_world, settled_run, rounds, item_in, cell_in}
 use Rattle.sheet_meaning.specs.declared.workbook.Workbook.{Workbook}
-
--- a formula cell's object and column
-abbrev pub Cell : Type 0
-Cell = ℕ × ℕ
-
-abbrev pub is_cell : Cell → Cell → Bool
-is_cell x y = x.0 == y.0 && x.1 == y.1
-
-abbrev pub has_cell : List Cell → Cell → Bool
-has_cell cells x = list_any (λ y. is_cell y x) cells
-
--- the cells with one more at the end, unless it is among them
-abbrev pub with_cell : List Cell → Cell → List Cell
-with_cell cells x = if has_cell cells x then cells else cells ++ x ∷ []
-
-abbrev pub with_cells : List Cell → List Cell → List Cell
-with_cells cells xs = fold with_cell cells xs
 
 -- the formula cell of an object and a column
 abbrev pub cell_at : List FormulaCell → Cell → Option FormulaCell
