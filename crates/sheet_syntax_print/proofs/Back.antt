@@ -1,5 +1,6 @@
 -- A printed formula is read as itself.
-use Rattle.std.proofs.Common.{◌≡◌, ℕ, ◌<◌, ◌≤◌, ◌+◌, ◌^◌, max, List, [], ◌∷◌, ◌++◌, length, map, true, false, refl, sym, ap, ◌∙◌, subst, arith, append_assoc, append-nil, Some, Ok, Err, pos}
+use Rattle.std.proofs.Common.{◌≡◌, ℕ, ◌<◌, ◌≤◌, ◌+◌, ◌^◌, max, List, [], ◌∷◌, ◌++◌, length, map, true, false, refl, sym, ap, ◌∙◌, subst, arith, append_assoc}
+use Rattle.std.proofs.Common.{append-nil, Some, Ok, Err, pos}
 use Rattle.std.specs.Prelude.{codes, nat_le, flat_map, Result, IfOk}
 use Rattle.sheet_syntax_trees.specs.declared.token.SyntaxRefusal.{SyntaxRefusal}
 use Rattle.std.specs.List.{join_by}
@@ -29,11 +30,17 @@ use Rattle.sheet_syntax_trees.specs.declared.tree.Tree.{Tree}
 use Rattle.sheet_syntax_trees.specs.declared.tree.Tree.TheVariants as tree
 use Rattle.sheet_syntax_trees.specs.Signs.{sign_of}
 use Rattle.sheet_syntax_trees.specs.Operators.{operator_among, prefixed}
-use Rattle.sheet_syntax_trees.specs.Grammar.{Nonterminal, expression, chain, negation, unary, postfix, operand as operand_of, before, Form, form, Parts, function_of, quantifier_of, Produces, AreParts, Gathers, a_choice, no_choice, an_operand, an_operation, a_prefix, no_prefix, no_step, a_child, an_up, a_leaf, in_parentheses, no_set, a_set, a_comprehension, a_sum, a_call, a_test, one_part, more_parts, all_values, chosen_values}
+use Rattle.sheet_syntax_trees.specs.Grammar.{Nonterminal, expression, chain, negation, unary, postfix, operand as operand_of, before, Form, form, Parts}
+use Rattle.sheet_syntax_trees.specs.Grammar.{function_of, quantifier_of, Produces, AreParts, Gathers, a_choice, no_choice, an_operand, an_operation, a_prefix}
+use Rattle.sheet_syntax_trees.specs.Grammar.{no_prefix, no_step, a_child, an_up, a_leaf, in_parentheses, no_set, a_set, a_comprehension, a_sum, a_call, a_test}
+use Rattle.sheet_syntax_trees.specs.Grammar.{one_part, more_parts, all_values, chosen_values}
 use Rattle.sheet_syntax_trees.specs.Reading.{leaf, leaf_of, line_of}
 use Rattle.sheet_syntax_trees.specs.Texts.{StandsFor, on_one_line}
 use Rattle.sheet_syntax_trees.specs.Printing.{formula_text, is_enclosed, operand, operator_text, function_text, quantifier_text, opening_text, closing_text}
-use Rattle.sheet_syntax_print.proofs.Laws.{text-Child, text-Up, text-Negate, text-Not, text-Binary, text-If, text-Call, text-Gather, text-GatherWhere, text-Test, text-Set, line-Child, line-Up, line-Negate, line-Not, line-Binary, line-If, line-Call, line-Gather, line-GatherWhere, line-Test, line-Set, enclosed-Child, enclosed-Up, enclosed-Negate, enclosed-Not, enclosed-Binary, enclosed-If, enclosed-Call, enclosed-Gather, enclosed-GatherWhere, enclosed-Test, enclosed-Set}
+use Rattle.sheet_syntax_print.proofs.Laws.{text-Child, text-Up, text-Negate, text-Not, text-Binary, text-If, text-Call, text-Gather, text-GatherWhere}
+use Rattle.sheet_syntax_print.proofs.Laws.{text-Test, text-Set, line-Child, line-Up, line-Negate, line-Not, line-Binary, line-If, line-Call, line-Gather}
+use Rattle.sheet_syntax_print.proofs.Laws.{line-GatherWhere, line-Test, line-Set, enclosed-Child, enclosed-Up, enclosed-Negate, enclosed-Not, enclosed-Binary}
+use Rattle.sheet_syntax_print.proofs.Laws.{enclosed-If, enclosed-Call, enclosed-Gather, enclosed-GatherWhere, enclosed-Test, enclosed-Set}
 use Rattle.sheet_syntax_print.proofs.Quoting.{text_seen}
 
 -- ---- what is read of a text at an offset of the first line, before that rest
@@ -63,7 +70,8 @@ to_unary : Climbs postfix unary
 to_unary ts f p = no_prefix prefix.Minus ts f p
 
 to_comparison : Climbs postfix (chain level.Comparison)
-to_comparison ts f p = an_operand level.Comparison ts f (an_operand level.Sets ts f (an_operand level.Sums ts f (an_operand level.Products ts f (to_unary ts f p))))
+to_comparison ts f p =
+    an_operand level.Comparison ts f (an_operand level.Sets ts f (an_operand level.Sums ts f (an_operand level.Products ts f (to_unary ts f p))))
 
 to_negation : Climbs postfix negation
 to_negation ts f p = no_prefix prefix.Not ts f (to_comparison ts f p)
@@ -91,7 +99,8 @@ from_comparison : Climbs (chain level.Comparison) expression
 from_comparison ts f p = from_negation ts f (no_prefix prefix.Not ts f p)
 
 from_unary : Climbs unary expression
-from_unary ts f p = from_comparison ts f (an_operand level.Comparison ts f (an_operand level.Sets ts f (an_operand level.Sums ts f (an_operand level.Products ts f p))))
+from_unary ts f p =
+    from_comparison ts f (an_operand level.Comparison ts f (an_operand level.Sets ts f (an_operand level.Sums ts f (an_operand level.Products ts f p))))
 
 from_chain : (l : Level) → Climbs (chain l) expression
 from_chain level.Or ts f p = no_choice ts f p
@@ -218,10 +227,16 @@ two a b (Err e) = refl
 
 -- a word, and the bracket at that place behind it
 abbrev called : List ℕ → ℕ → ℕ → List ℕ → Result (List Token) SyntaxRefusal
-called w n at rest = with_tokens (token (kind.Reserved w) at (at + length w) ∷ []) (with_tokens (token (kind.Symbol (codes "(")) n (n + 1) ∷ []) (tokens_from rest (n + 1) 1 0))
+called w n at rest =
+    with_tokens (token (kind.Reserved w) at (at + length w) ∷ []) (with_tokens (token (kind.Symbol (codes "(")) n (n + 1) ∷ []) (tokens_from rest (n + 1) 1 0))
 
 opened : (text w : List ℕ) (n : ℕ) (rest : List ℕ) (at : ℕ) → tokens_from (text ++ rest) at 1 0 ≡ called w n at rest → Seen text rest at (called_at w n at)
-opened text w n rest at h = record { to = n + 1; told = h ∙ two (token (kind.Reserved w) at (at + length w)) (token (kind.Symbol (codes "(")) n (n + 1)) (tokens_from rest (n + 1) 1 0) }
+opened text w n rest at h =
+    record {
+      to = n + 1;
+      told =
+          h ∙ two (token (kind.Reserved w) at (at + length w)) (token (kind.Symbol (codes "(")) n (n + 1)) (tokens_from rest (n + 1) 1 0);
+    }
 
 function_piece : (f : Function) (rest : List ℕ) (at : ℕ) → (n : ℕ) × Seen (function_text f ++ codes "(") rest at (called_at (function_text f) n at)
 unfolding is_reserved
@@ -281,14 +296,16 @@ as_whole text e depth most bound fits b at rest ends =
     record { ts = r.ts; nest = r.nest; seen = r.seen; produced = from_postfix r.ts _ r.produced; narrow = omega (arith, fits, n); lined = r.lined }
 
 -- a formula that stands as it is as an operand
-open_form : (e : Tree) (depth : ℕ) (text : List ℕ) (d : Tree) → is_enclosed e ≡ false → formula_text e ≡ text → on_one_line e ≡ d → Back postfix text d depth depth → Both e depth
+open_form : (e : Tree) (depth : ℕ) (text : List ℕ) (d : Tree) → is_enclosed e ≡ false → formula_text e ≡ text → on_one_line e ≡ d →
+    Back postfix text d depth depth → Both e depth
 open_form e depth text d enclosed told line b =
     let same : operand e (formula_text e) ≡ formula_text e = rw enclosed refl in
     let P : List ℕ → Tree → Type 0 = λ t f. Back postfix t f depth depth in
     let c : Back postfix (formula_text e) (on_one_line e) depth depth = subst (λ t. P t (on_one_line e)) (sym told) (subst (P text) (sym line) b) in
     record { whole = as_whole (formula_text e) (on_one_line e) depth depth depth (omega arith) c; part = subst (λ t. P t (on_one_line e)) (sym same) c }
 
-in_brackets : (text : List ℕ) (e : Tree) (depth : ℕ) → Back expression text e (depth + 1) depth → Back postfix (codes "(" ++ text ++ codes ")") e (depth + 1) (depth + 1)
+in_brackets : (text : List ℕ) (e : Tree) (depth : ℕ) → Back expression text e (depth + 1) depth →
+    Back postfix (codes "(" ++ text ++ codes ")") e (depth + 1) (depth + 1)
 in_brackets text e depth b at rest ends =
     let o = open_piece ((text ++ codes ")") ++ rest) at in
     let r = b o.to (codes ")" ++ rest) refl in
@@ -304,13 +321,15 @@ in_brackets text e depth b at rest ends =
     }
 
 -- a formula that stands in parentheses as an operand
-shut_form : (e : Tree) (depth : ℕ) (text : List ℕ) (d : Tree) → is_enclosed e ≡ true → formula_text e ≡ text → on_one_line e ≡ d → Back expression text d (depth + 1) depth → Both e (depth + 1)
+shut_form : (e : Tree) (depth : ℕ) (text : List ℕ) (d : Tree) → is_enclosed e ≡ true → formula_text e ≡ text → on_one_line e ≡ d →
+    Back expression text d (depth + 1) depth → Both e (depth + 1)
 shut_form e depth text d enclosed told line b =
     let P : List ℕ → Tree → Type 0 = λ t f. Back expression t f (depth + 1) depth in
     let c : Back expression (formula_text e) (on_one_line e) (depth + 1) depth = subst (λ t. P t (on_one_line e)) (sym told) (subst (P text) (sym line) b) in
     let same : operand e (formula_text e) ≡ codes "(" ++ formula_text e ++ codes ")" = rw enclosed refl in
     record {
-      whole = λ at rest ends. let r = c at rest ends in let n = r.narrow in record { ts = r.ts; nest = r.nest; seen = r.seen; produced = r.produced; narrow = omega (arith, n); lined = r.lined };
+      whole = λ at rest ends. let r = c at rest ends in let n = r.narrow in
+          record { ts = r.ts; nest = r.nest; seen = r.seen; produced = r.produced; narrow = omega (arith, n); lined = r.lined };
       part = subst (λ t. Back postfix t (on_one_line e) (depth + 1) (depth + 1)) (sym same) (in_brackets (formula_text e) (on_one_line e) depth c);
     }
 
@@ -325,7 +344,8 @@ if_back line c x y dc dx dy bc bx by =
     let tc = formula_text c in
     let tx = formula_text x in
     let ty = formula_text y in
-    let text : formula_text (tree.If line c x y) ≡ codes "if " ++ (tc ++ (codes " then " ++ (tx ++ (codes " else " ++ ty)))) = text-If line c x y ∙ simp (append_assoc) refl in
+    let text : formula_text (tree.If line c x y) ≡ codes "if " ++ (tc ++ (codes " then " ++ (tx ++ (codes " else " ++ ty)))) =
+    text-If line c x y ∙ simp (append_assoc) refl in
     shut_form (tree.If line c x y) (max dc (max dx dy)) _ _ (enclosed-If line c x y) text (line-If line c x y)
     (λ at rest ends.
     let p0 = if_piece ((tc ++ (codes " then " ++ (tx ++ (codes " else " ++ ty)))) ++ rest) at in
@@ -348,11 +368,13 @@ if_back line c x y dc dx dy bc bx by =
       lined = refl;
     })
 
-binary_back : (line : ℕ) (l : Level) (op : Operator) (s : Sign) (a b : Tree) (da db : ℕ) → operator_among l s ≡ Some op → Both a da → Both b db → Both (tree.Binary line op a b) (max da db + 1)
+binary_back : (line : ℕ) (l : Level) (op : Operator) (s : Sign) (a b : Tree) (da db : ℕ) → operator_among l s ≡ Some op → Both a da → Both b db →
+    Both (tree.Binary line op a b) (max da db + 1)
 binary_back line l op s a b da db is ba bb =
     let ta = operand a (formula_text a) in
     let tb = operand b (formula_text b) in
-    let text : formula_text (tree.Binary line op a b) ≡ ta ++ ((codes " " ++ (operator_text op ++ codes " ")) ++ tb) = text-Binary line op a b ∙ simp (append_assoc) refl in
+    let text : formula_text (tree.Binary line op a b) ≡ ta ++ ((codes " " ++ (operator_text op ++ codes " ")) ++ tb) =
+    text-Binary line op a b ∙ simp (append_assoc) refl in
     shut_form (tree.Binary line op a b) (max da db) _ _ (enclosed-Binary line op a b) text (line-Binary line op a b)
     (λ at rest ends.
     let ra = ba.part at (((codes " " ++ (operator_text op ++ codes " ")) ++ tb) ++ rest) refl in
@@ -360,12 +382,16 @@ binary_back line l op s a b da db is ba bb =
     let rb = bb.part p.to rest ends in
     let na = ra.narrow in let nb = rb.narrow in
     let known : operator_among l (sign_of (operator_kind op)) ≡ Some op = ap (operator_among l) (among l s op is) ∙ is in
-    let made = an_operation l op (token (operator_kind op) (ra.seen.to + 1) (ra.seen.to + 1 + length (operator_text op))) ra.ts rb.ts _ _ (to_before l ra.ts _ ra.produced) known (to_operand l rb.ts _ rb.produced) in
-    let P : ℕ → Type 0 = λ n. Produces (chain l) (ra.ts ++ (operator_at op ra.seen.to ++ rb.ts)) (form (tree.Binary n op (on_one_line a) (on_one_line b)) (max da db + 1) (max ra.nest rb.nest)) in
+    let made = an_operation l op (token (operator_kind op) (ra.seen.to + 1) (ra.seen.to + 1 + length (operator_text op))) ra.ts rb.ts _ _
+    (to_before l ra.ts _ ra.produced) known (to_operand l rb.ts _ rb.produced) in
+    let P : ℕ → Type 0 =
+    λ n. Produces (chain l) (ra.ts ++ (operator_at op ra.seen.to ++ rb.ts))
+    (form (tree.Binary n op (on_one_line a) (on_one_line b)) (max da db + 1) (max ra.nest rb.nest)) in
     record {
       ts = ra.ts ++ (operator_at op ra.seen.to ++ rb.ts);
       nest = max ra.nest rb.nest;
-      seen = both_seen ta ((codes " " ++ (operator_text op ++ codes " ")) ++ tb) rest at _ _ ra.seen (both_seen (codes " " ++ (operator_text op ++ codes " ")) tb rest ra.seen.to _ _ p rb.seen);
+      seen = both_seen ta ((codes " " ++ (operator_text op ++ codes " ")) ++ tb) rest at _ _ ra.seen
+          (both_seen (codes " " ++ (operator_text op ++ codes " ")) tb rest ra.seen.to _ _ p rb.seen);
       produced = from_chain l _ _ (subst P ra.lined made);
       narrow = omega (arith, na, nb);
       lined = first_line ra.ts _ postfix _ ra.produced ra.lined;
@@ -406,7 +432,8 @@ prefix_back prefix.Not line e d b =
 name_kind : (name : List ℕ) → is_reserved name ≡ false → word_kind name ≡ kind.Name name
 name_kind name h = rw h refl
 
-pub name_seen : (name rest : List ℕ) (at : ℕ) → IsWord name → is_reserved name ≡ false → Ends rest → (end : ℕ) × Seen name rest at (token (kind.Name name) at end ∷ [])
+pub name_seen : (name rest : List ℕ) (at : ℕ) → IsWord name → is_reserved name ≡ false → Ends rest →
+    (end : ℕ) × Seen name rest at (token (kind.Name name) at end ∷ [])
 name_seen name rest at w h ends =
     let (end, s) = word_seen name rest at w ends in
     let P : TokenKind → Type 0 = λ k. Seen name rest at (token k at end ∷ []) in
@@ -415,19 +442,23 @@ name_seen name rest at w h ends =
 reserved_kind : (word : List ℕ) → is_reserved word ≡ true → word_kind word ≡ kind.Reserved word
 reserved_kind word h = rw h refl
 
-pub reserved_seen : (word rest : List ℕ) (at : ℕ) → IsWord word → is_reserved word ≡ true → Ends rest → (end : ℕ) × Seen word rest at (token (kind.Reserved word) at end ∷ [])
+pub reserved_seen : (word rest : List ℕ) (at : ℕ) → IsWord word → is_reserved word ≡ true → Ends rest →
+    (end : ℕ) × Seen word rest at (token (kind.Reserved word) at end ∷ [])
 reserved_seen word rest at w h ends =
     let (end, s) = word_seen word rest at w ends in
     let P : TokenKind → Type 0 = λ k. Seen word rest at (token k at end ∷ []) in
     (end, subst P (reserved_kind word h) s)
 
 -- a formula of one token
-one_token : (e : Tree) (d : Tree) (k : TokenKind) → is_enclosed e ≡ false → on_one_line e ≡ d → leaf 1 k ≡ Some d → ((rest : List ℕ) (at : ℕ) → Ends rest → (end : ℕ) × Seen (formula_text e) rest at (token k at end ∷ [])) → Both e 1
+one_token : (e : Tree) (d : Tree) (k : TokenKind) → is_enclosed e ≡ false → on_one_line e ≡ d → leaf 1 k ≡ Some d →
+    ((rest : List ℕ) (at : ℕ) → Ends rest → (end : ℕ) × Seen (formula_text e) rest at (token k at end ∷ [])) → Both e 1
 one_token e d k enclosed line is see =
     open_form e 1 (formula_text e) d enclosed refl line
-    (λ at rest ends. let (end, s) = see rest at ends in record { ts = token k at end ∷ []; nest = 0; seen = s; produced = no_step _ _ (a_leaf _ d is); narrow = omega arith; lined = refl })
+    (λ at rest ends. let (end, s) = see rest at ends in
+    record { ts = token k at end ∷ []; nest = 0; seen = s; produced = no_step _ _ (a_leaf _ d is); narrow = omega arith; lined = refl })
 
-pub a_word : (text : List ℕ) (c : ℕ) (cs : List ℕ) → text ≡ c ∷ cs → is_letter c ≡ true → AllPass is_in_word (c ∷ cs) → nat_le (length (c ∷ cs)) 63 ≡ true → IsWord text
+pub a_word : (text : List ℕ) (c : ℕ) (cs : List ℕ) → text ≡ c ∷ cs → is_letter c ≡ true → AllPass is_in_word (c ∷ cs) → nat_le (length (c ∷ cs)) 63 ≡ true →
+    IsWord text
 a_word text c cs is letter passes short = record { first = c; others = cs; is = is; letter = letter; passes = passes; short = short }
 
 leaf_sign : (line : ℕ) (s : Sign) (e : Tree) → leaf_of line s ≡ Some e → Both e 1
@@ -435,29 +466,39 @@ unfolding is_reserved
 leaf_sign line sign.True e h =
     let same : tree.Truth line true ≡ e = cc in
     subst (λ t. Both t 1) same
-    (one_token (tree.Truth line true) (tree.Truth 1 true) (kind.Reserved (codes "true")) refl refl refl (λ rest at ends. reserved_seen (codes "true") rest at (a_word (codes "true") 116 (codes "rue") refl refl (refl, (refl, (refl, (refl, tt)))) refl) refl ends))
+    (one_token (tree.Truth line true) (tree.Truth 1 true) (kind.Reserved (codes "true")) refl refl refl
+    (λ rest at ends. reserved_seen (codes "true") rest at (a_word (codes "true") 116 (codes "rue") refl refl (refl, (refl, (refl, (refl, tt)))) refl) refl
+    ends))
 leaf_sign line sign.False e h =
     let same : tree.Truth line false ≡ e = cc in
     subst (λ t. Both t 1) same
     (one_token (tree.Truth line false) (tree.Truth 1 false) (kind.Reserved (codes "false")) refl refl refl
-    (λ rest at ends. reserved_seen (codes "false") rest at (a_word (codes "false") 102 (codes "alse") refl refl (refl, (refl, (refl, (refl, (refl, tt))))) refl) refl ends))
+    (λ rest at ends. reserved_seen (codes "false") rest at (a_word (codes "false") 102 (codes "alse") refl refl (refl, (refl, (refl, (refl, (refl, tt))))) refl)
+    refl ends))
 leaf_sign line sign.Root e h =
     let same : tree.Root line ≡ e = cc in
-    subst (λ t. Both t 1) same (one_token (tree.Root line) (tree.Root 1) (kind.Symbol (codes "$")) refl refl refl (λ rest at ends. (at + 1, root_piece rest at)))
+    subst (λ t. Both t 1) same
+    (one_token (tree.Root line) (tree.Root 1) (kind.Symbol (codes "$")) refl refl refl (λ rest at ends. (at + 1, root_piece rest at)))
 leaf_sign line sign.This e h =
     let same : tree.This line ≡ e = cc in
     subst (λ t. Both t 1) same
-    (one_token (tree.This line) (tree.This 1) (kind.Reserved (codes "this")) refl refl refl (λ rest at ends. reserved_seen (codes "this") rest at (a_word (codes "this") 116 (codes "his") refl refl (refl, (refl, (refl, (refl, tt)))) refl) refl ends))
+    (one_token (tree.This line) (tree.This 1) (kind.Reserved (codes "this")) refl refl refl
+    (λ rest at ends. reserved_seen (codes "this") rest at (a_word (codes "this") 116 (codes "his") refl refl (refl, (refl, (refl, (refl, tt)))) refl) refl
+    ends))
 leaf_sign line sign.Caller e h =
     let same : tree.Caller line ≡ e = cc in
     subst (λ t. Both t 1) same
     (one_token (tree.Caller line) (tree.Caller 1) (kind.Reserved (codes "caller")) refl refl refl
-    (λ rest at ends. reserved_seen (codes "caller") rest at (a_word (codes "caller") 99 (codes "aller") refl refl (refl, (refl, (refl, (refl, (refl, (refl, tt)))))) refl) refl ends))
+    (λ rest at ends.
+    reserved_seen (codes "caller") rest at (a_word (codes "caller") 99 (codes "aller") refl refl (refl, (refl, (refl, (refl, (refl, (refl, tt)))))) refl)
+    refl ends))
 leaf_sign line sign.Operator e h =
     let same : tree.Operator line ≡ e = cc in
     subst (λ t. Both t 1) same
     (one_token (tree.Operator line) (tree.Operator 1) (kind.Reserved (codes "operator")) refl refl refl
-    (λ rest at ends. reserved_seen (codes "operator") rest at (a_word (codes "operator") 111 (codes "perator") refl refl (refl, (refl, (refl, (refl, (refl, (refl, (refl, (refl, tt)))))))) refl) refl ends))
+    (λ rest at ends.
+    reserved_seen (codes "operator") rest at
+    (a_word (codes "operator") 111 (codes "perator") refl refl (refl, (refl, (refl, (refl, (refl, (refl, (refl, (refl, tt)))))))) refl) refl ends))
 leaf_sign line _ e h = let wrong : ⊥ = cc in absurd wrong
 
 number_fits : (n : ℕ) → nat_le n 9223372036854775807 ≡ true → n < 2 ^ 64
@@ -466,23 +507,27 @@ number_fits n h = grind (arith, common_steps)
 leaf_back : (line : ℕ) (k : TokenKind) (e : Tree) → Lexable k → leaf line k ≡ Some e → Both e 1
 leaf_back line (kind.Name name) e good h =
     let same : tree.Name line name ≡ e = cc in
-    subst (λ t. Both t 1) same (one_token (tree.Name line name) (tree.Name 1 name) (kind.Name name) refl refl refl (λ rest at ends. name_seen name rest at good.0 good.1 ends))
+    subst (λ t. Both t 1) same
+    (one_token (tree.Name line name) (tree.Name 1 name) (kind.Name name) refl refl refl (λ rest at ends. name_seen name rest at good.0 good.1 ends))
 leaf_back line (kind.Reserved word) e good h = leaf_sign line (sign_of (kind.Reserved word)) e h
 leaf_back line (kind.Number z) e (n, is, fits) h =
     let same : tree.Number line z ≡ e = cc in
     subst (λ t. Both t 1) same
     (subst (λ z. Both (tree.Number line z) 1) (sym is)
-    (one_token (tree.Number line (pos n)) (tree.Number 1 (pos n)) (kind.Number (pos n)) refl refl refl (λ rest at ends. number_seen n rest at fits (number_fits n fits) ends)))
+    (one_token (tree.Number line (pos n)) (tree.Number 1 (pos n)) (kind.Number (pos n)) refl refl refl
+    (λ rest at ends. number_seen n rest at fits (number_fits n fits) ends)))
 leaf_back line (kind.Text content) e good h =
     let same : tree.Text line content ≡ e = cc in
-    subst (λ t. Both t 1) same (one_token (tree.Text line content) (tree.Text 1 content) (kind.Text content) refl refl refl (λ rest at ends. text_seen content rest at good.0 good.1))
+    subst (λ t. Both t 1) same
+    (one_token (tree.Text line content) (tree.Text 1 content) (kind.Text content) refl refl refl (λ rest at ends. text_seen content rest at good.0 good.1))
 leaf_back line (kind.Symbol s) e good h = leaf_sign line (sign_of (kind.Symbol s)) e h
 
 -- ---- steps
 
 child_back : (line : ℕ) (e : Tree) (name : List ℕ) (d : ℕ) → IsWord name → is_reserved name ≡ false → Both e d → Both (tree.Child line e name) (d + 1)
 child_back line e name d word free b =
-    open_form (tree.Child line e name) (d + 1) _ _ (enclosed-Child line e name) (text-Child line e name ∙ append_assoc (operand e (formula_text e)) (codes ".") name) (line-Child line e name)
+    open_form (tree.Child line e name) (d + 1) _ _ (enclosed-Child line e name) (text-Child line e name
+    ∙ append_assoc (operand e (formula_text e)) (codes ".") name) (line-Child line e name)
     (λ at rest ends.
     let t = operand e (formula_text e) in
     let r = b.part at ((codes "." ++ name) ++ rest) refl in
@@ -490,7 +535,8 @@ child_back line e name d word free b =
     let (end, s) = name_seen name rest p.to word free ends in
     let n = r.narrow in
     let made = a_child (token (kind.Symbol (codes ".")) r.seen.to (r.seen.to + 1)) (token (kind.Name name) p.to end) name r.ts _ r.produced refl refl in
-    let P : ℕ → Type 0 = λ l. Produces postfix (r.ts ++ (token (kind.Symbol (codes ".")) r.seen.to (r.seen.to + 1) ∷ token (kind.Name name) p.to end ∷ [])) (form (tree.Child l (on_one_line e) name) (d + 1) r.nest) in
+    let P : ℕ → Type 0 = λ l. Produces postfix (r.ts ++ (token (kind.Symbol (codes ".")) r.seen.to (r.seen.to + 1) ∷ token (kind.Name name) p.to end ∷ []))
+    (form (tree.Child l (on_one_line e) name) (d + 1) r.nest) in
     record {
       ts = r.ts ++ (token (kind.Symbol (codes ".")) r.seen.to (r.seen.to + 1) ∷ token (kind.Name name) p.to end ∷ []);
       nest = r.nest;
@@ -511,7 +557,9 @@ up_back line e d b =
     let (end, s) = reserved_seen (codes "up") rest p.to (a_word (codes "up") 117 (codes "p") refl refl (refl, (refl, tt)) refl) refl ends in
     let n = r.narrow in
     let made = an_up (token (kind.Symbol (codes ".")) r.seen.to (r.seen.to + 1)) (token (kind.Reserved (codes "up")) p.to end) r.ts _ r.produced refl refl in
-    let P : ℕ → Type 0 = λ l. Produces postfix (r.ts ++ (token (kind.Symbol (codes ".")) r.seen.to (r.seen.to + 1) ∷ token (kind.Reserved (codes "up")) p.to end ∷ [])) (form (tree.Up l (on_one_line e)) (d + 1) r.nest) in
+    let P : ℕ → Type 0 =
+    λ l. Produces postfix (r.ts ++ (token (kind.Symbol (codes ".")) r.seen.to (r.seen.to + 1) ∷ token (kind.Reserved (codes "up")) p.to end ∷ []))
+    (form (tree.Up l (on_one_line e)) (d + 1) r.nest) in
     record {
       ts = r.ts ++ (token (kind.Symbol (codes ".")) r.seen.to (r.seen.to + 1) ∷ token (kind.Reserved (codes "up")) p.to end ∷ []);
       nest = r.nest;
@@ -526,7 +574,8 @@ up_back line e d b =
 call_back : (line : ℕ) (f : Function) (e : Tree) (d : ℕ) → Both e d → Both (tree.Call line f e) (d + 1)
 call_back line f e d b =
     let t = formula_text e in
-    open_form (tree.Call line f e) (d + 1) ((function_text f ++ codes "(") ++ (t ++ codes ")")) _ (enclosed-Call line f e) (text-Call line f e ∙ sym (append_assoc (function_text f) (codes "(") (t ++ codes ")"))) (line-Call line f e)
+    open_form (tree.Call line f e) (d + 1) ((function_text f ++ codes "(") ++ (t ++ codes ")")) _ (enclosed-Call line f e)
+    (text-Call line f e ∙ sym (append_assoc (function_text f) (codes "(") (t ++ codes ")"))) (line-Call line f e)
     (λ at rest ends.
     let (n, p) = function_piece f ((t ++ codes ")") ++ rest) at in
     let r = b.whole p.to (codes ")" ++ rest) refl in
@@ -541,7 +590,8 @@ call_back line f e d b =
       lined = refl;
     })
 
-test_back : (line : ℕ) (q : Quantifier) (x : List ℕ) (s p : Tree) (ds dp : ℕ) → IsWord x → is_reserved x ≡ false → Both s ds → Both p dp → Both (tree.Test line q x s p) (max ds dp + 1)
+test_back : (line : ℕ) (q : Quantifier) (x : List ℕ) (s p : Tree) (ds dp : ℕ) → IsWord x → is_reserved x ≡ false → Both s ds → Both p dp →
+    Both (tree.Test line q x s p) (max ds dp + 1)
 test_back line q x s p ds dp word free bs bp =
     let ts = formula_text s in
     let tp = formula_text p in
@@ -559,7 +609,9 @@ test_back line q x s p ds dp word free bs bp =
     let p3 = close_piece rest rp.seen.to in
     let ws = rs.narrow in let wp = rp.narrow in
     record {
-      ts = called_at (quantifier_text q) n at ++ ((token (kind.Name x) p0.to end ∷ []) ++ (word_at (codes "in") (v.to + 1) ++ (rs.ts ++ (symbol_at (codes "|") (rs.seen.to + 1) ++ (rp.ts ++ symbol_at (codes ")") rp.seen.to)))));
+      ts = called_at (quantifier_text q) n
+          at ++ ((token (kind.Name x) p0.to end ∷ []) ++
+          (word_at (codes "in") (v.to + 1) ++ (rs.ts ++ (symbol_at (codes "|") (rs.seen.to + 1) ++ (rp.ts ++ symbol_at (codes ")") rp.seen.to)))));
       nest = max rs.nest rp.nest + 1;
       seen = both_seen (quantifier_text q ++ codes "(") inner rest at _ _ p0
           (both_seen x (codes " in " ++ (ts ++ (codes " | " ++ (tp ++ codes ")")))) rest p0.to _ _ v
@@ -580,7 +632,8 @@ record Gathered (g : Gathering) (text : List ℕ) (e : Tree) (depth : ℕ) (at :
   gathers : Gathers 1 g ts (form e depth nest)
   narrow : nest ≤ depth
 
-wrapped : (g : Gathering) (line : ℕ) (e d : Tree) (text : List ℕ) (depth : ℕ) → is_enclosed e ≡ false → formula_text e ≡ opening_text g ++ (text ++ closing_text g) → on_one_line e ≡ d
+wrapped : (g : Gathering) (line : ℕ) (e d : Tree) (text : List ℕ) (depth : ℕ) → is_enclosed e ≡ false →
+    formula_text e ≡ opening_text g ++ (text ++ closing_text g) → on_one_line e ≡ d
     → ((at : ℕ) (rest : List ℕ) → Ends rest → Gathered g text d depth at rest) → Both e (depth + 1)
 wrapped gathering.Union line e d text depth enclosed told one b =
     open_form e (depth + 1) _ d enclosed told one
@@ -613,12 +666,14 @@ wrapped gathering.Sum line e d text depth enclosed told one b =
       lined = refl;
     })
 
-gather_back : (line : ℕ) (g : Gathering) (f : Tree) (x : List ℕ) (s : Tree) (df ds : ℕ) → IsWord x → is_reserved x ≡ false → Both f df → Both s ds → Both (tree.Gather line g f x s) (max df ds + 1)
+gather_back : (line : ℕ) (g : Gathering) (f : Tree) (x : List ℕ) (s : Tree) (df ds : ℕ) → IsWord x → is_reserved x ≡ false → Both f df → Both s ds →
+    Both (tree.Gather line g f x s) (max df ds + 1)
 gather_back line g f x s df ds word free bf bs =
     let tf = formula_text f in
     let ts = formula_text s in
     let text = tf ++ (codes " : " ++ (x ++ (codes " in " ++ ts))) in
-    wrapped g line (tree.Gather line g f x s) _ text (max df ds) (enclosed-Gather line g f x s) (text-Gather line g f x s ∙ simp (append_assoc) refl) (line-Gather line g f x s)
+    wrapped g line (tree.Gather line g f x s) _ text (max df ds) (enclosed-Gather line g f x s) (text-Gather line g f x s ∙ simp (append_assoc) refl)
+    (line-Gather line g f x s)
     (λ at rest ends.
     let rf = bf.whole at ((codes " : " ++ (x ++ (codes " in " ++ ts))) ++ rest) refl in
     let p1 = colon_piece ((x ++ (codes " in " ++ ts)) ++ rest) rf.seen.to in
@@ -637,13 +692,15 @@ gather_back line g f x s df ds word free bf bs =
       narrow = omega (arith, wf, ws);
     })
 
-chosen_back : (line : ℕ) (g : Gathering) (f : Tree) (x : List ℕ) (s p : Tree) (df ds dp : ℕ) → IsWord x → is_reserved x ≡ false → Both f df → Both s ds → Both p dp → Both (tree.GatherWhere line g f x s p) (max df (max ds dp) + 1)
+chosen_back : (line : ℕ) (g : Gathering) (f : Tree) (x : List ℕ) (s p : Tree) (df ds dp : ℕ) → IsWord x → is_reserved x ≡ false → Both f df → Both s ds →
+    Both p dp → Both (tree.GatherWhere line g f x s p) (max df (max ds dp) + 1)
 chosen_back line g f x s p df ds dp word free bf bs bp =
     let tf = formula_text f in
     let ts = formula_text s in
     let tp = formula_text p in
     let text = tf ++ (codes " : " ++ (x ++ (codes " in " ++ (ts ++ (codes " | " ++ tp))))) in
-    wrapped g line (tree.GatherWhere line g f x s p) _ text (max df (max ds dp)) (enclosed-GatherWhere line g f x s p) (text-GatherWhere line g f x s p ∙ simp (append_assoc) refl) (line-GatherWhere line g f x s p)
+    wrapped g line (tree.GatherWhere line g f x s p) _ text (max df (max ds dp)) (enclosed-GatherWhere line g f x s p) (text-GatherWhere line g f x s p
+    ∙ simp (append_assoc) refl) (line-GatherWhere line g f x s p)
     (λ at rest ends.
     let rf = bf.whole at ((codes " : " ++ (x ++ (codes " in " ++ (ts ++ (codes " | " ++ tp))))) ++ rest) refl in
     let p1 = colon_piece ((x ++ (codes " in " ++ (ts ++ (codes " | " ++ tp)))) ++ rest) rf.seen.to in
@@ -654,7 +711,9 @@ chosen_back line g f x s p df ds dp word free bf bs bp =
     let rp = bp.whole p3.to rest ends in
     let wf = rf.narrow in let ws = rs.narrow in let wp = rp.narrow in
     record {
-      ts = rf.ts ++ (symbol_at (codes ":") (rf.seen.to + 1) ++ ((token (kind.Name x) p1.to end ∷ []) ++ (word_at (codes "in") (v.to + 1) ++ (rs.ts ++ (symbol_at (codes "|") (rs.seen.to + 1) ++ rp.ts)))));
+      ts = rf.ts ++ (symbol_at (codes ":")
+          (rf.seen.to + 1) ++
+          ((token (kind.Name x) p1.to end ∷ []) ++ (word_at (codes "in") (v.to + 1) ++ (rs.ts ++ (symbol_at (codes "|") (rs.seen.to + 1) ++ rp.ts)))));
       nest = max rf.nest (max rs.nest rp.nest);
       seen = both_seen tf (codes " : " ++ (x ++ (codes " in " ++ (ts ++ (codes " | " ++ tp))))) rest at _ _ rf.seen
           (both_seen (codes " : ") (x ++ (codes " in " ++ (ts ++ (codes " | " ++ tp)))) rest rf.seen.to _ _ p1
@@ -697,8 +756,11 @@ flat_snoc : {A B : Type 0} (f : A → List B) (xs : List A) (y : A) → flat_map
 flat_snoc f [] y = append-nil (f y)
 flat_snoc f (x ∷ xs) y = ap (λ l. f x ++ l) (flat_snoc f xs y) ∙ sym (append_assoc (f x) (flat_map f xs) (f y))
 
-join_snoc : (first : Tree) (others : List Tree) (y : Tree) → join_by formula_text (codes ", ") ((first ∷ others) ++ y ∷ []) ≡ join_by formula_text (codes ", ") (first ∷ others) ++ (codes ", " ++ formula_text y)
-join_snoc first others y = ap (λ l. formula_text first ++ l) (flat_snoc (λ e. codes ", " ++ formula_text e) others y) ∙ sym (append_assoc (formula_text first) (flat_map (λ e. codes ", " ++ formula_text e) others) (codes ", " ++ formula_text y))
+join_snoc : (first : Tree) (others : List Tree) (y : Tree) →
+    join_by formula_text (codes ", ") ((first ∷ others) ++ y ∷ []) ≡ join_by formula_text (codes ", ") (first ∷ others) ++ (codes ", " ++ formula_text y)
+join_snoc first others y =
+    ap (λ l. formula_text first ++ l) (flat_snoc (λ e. codes ", " ++ formula_text e) others y)
+    ∙ sym (append_assoc (formula_text first) (flat_map (λ e. codes ", " ++ formula_text e) others) (codes ", " ++ formula_text y))
 
 map_snoc : {A B : Type 0} (f : A → B) (xs : List A) (y : A) → map f (xs ++ y ∷ []) ≡ map f xs ++ f y ∷ []
 map_snoc f [] y = refl
@@ -716,9 +778,12 @@ more_back trees y d dy b by =
           let r = b.read at ((codes ", " ++ ty) ++ rest) refl in
           let p = comma_piece (ty ++ rest) r.seen.to in
           let ry = by.whole p.to rest ends in
-          let text : join_by formula_text (codes ", ") (trees ++ y ∷ []) ≡ tt' ++ (codes ", " ++ ty) = ap (λ l. join_by formula_text (codes ", ") (l ++ y ∷ [])) b.some ∙ join_snoc b.first b.others y ∙ ap (λ l. join_by formula_text (codes ", ") l ++ (codes ", " ++ ty)) (sym b.some) in
+          let text : join_by formula_text (codes ", ") (trees ++ y ∷ []) ≡ tt' ++ (codes ", " ++ ty) =
+          ap (λ l. join_by formula_text (codes ", ") (l ++ y ∷ [])) b.some ∙ join_snoc b.first b.others y
+          ∙ ap (λ l. join_by formula_text (codes ", ") l ++ (codes ", " ++ ty)) (sym b.some) in
           let P : List ℕ → Type 0 = λ t. Seen t rest at (r.ts ++ (symbol_at (codes ",") r.seen.to ++ ry.ts)) in
-          let Q : List Tree → Type 0 = λ l. AreParts (r.ts ++ (symbol_at (codes ",") r.seen.to ++ ry.ts)) (record { trees = l; depth = max d dy; nest = max r.nest ry.nest }) in
+          let Q : List Tree →
+          Type 0 = λ l. AreParts (r.ts ++ (symbol_at (codes ",") r.seen.to ++ ry.ts)) (record { trees = l; depth = max d dy; nest = max r.nest ry.nest }) in
           let n = r.narrow in let m = ry.narrow in
           record {
             ts = r.ts ++ (symbol_at (codes ",") r.seen.to ++ ry.ts);
@@ -753,7 +818,15 @@ empty_back line =
     (λ at rest ends.
     let p = open_brace_piece (codes "}" ++ rest) at in
     let c = close_brace_piece rest p.to in
-    record { ts = symbol_at (codes "{") at ++ symbol_at (codes "}") p.to; nest = 1; seen = both_seen (codes "{") (codes "}") rest at _ _ p c; produced = no_step _ _ (no_set _ _ refl refl); narrow = omega arith; lined = refl })
+    record {
+      ts = symbol_at (codes "{") at ++ symbol_at (codes "}") p.to;
+      nest = 1;
+      seen = both_seen (codes "{") (codes "}") rest at _ _ p c;
+      produced =
+          no_step _ _ (no_set _ _ refl refl);
+      narrow = omega arith;
+      lined = refl;
+    })
 
 -- ---- all forms
 
@@ -822,6 +895,7 @@ reads_back text e s =
     }
 
 -- the same of a text that a function may give
-pub given_back : {X E : Type 0} (items : X → List ℕ) (r : Result X E) (e : Tree) → IfOk r (λ t. items t ≡ formula_text e) → IfOk r (λ t. (source : List ℕ) → StandsFor source e → StandsFor (items t) (on_one_line e))
+pub given_back : {X E : Type 0} (items : X → List ℕ) (r : Result X E) (e : Tree) → IfOk r (λ t. items t ≡ formula_text e) →
+    IfOk r (λ t. (source : List ℕ) → StandsFor source e → StandsFor (items t) (on_one_line e))
 given_back items (Ok t) e h = λ source s. let P : List ℕ → Type 0 = λ l. StandsFor l (on_one_line e) in subst P (sym h) (reads_back source e s)
 given_back items (Err d) e h = tt

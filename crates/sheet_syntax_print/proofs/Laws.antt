@@ -12,7 +12,8 @@ use Rattle.sheet_syntax_trees.specs.declared.tree.Tree.{Tree, Row_of-Tree, end_o
 use Rattle.sheet_syntax_trees.specs.declared.tree.Tree.TheVariants as tree
 use Rattle.sheet_syntax_trees.specs.declared.tree.Tree.TheBlock.{hidden-the_row-Tree-0, hidden-the_row-Tree-1}
 use Rattle.sheet_syntax_trees.specs.Texts.{on_one_line, all_on_one_line}
-use Rattle.sheet_syntax_trees.specs.Printing.{is_enclosed, formula_text, formula_texts, in_braces, operand, operator_text, function_text, quantifier_text, in_parentheses, opening_text, closing_text, bound_text}
+use Rattle.sheet_syntax_trees.specs.Printing.{is_enclosed, formula_text, formula_texts, in_braces, operand, operator_text, function_text, quantifier_text}
+use Rattle.sheet_syntax_trees.specs.Printing.{in_parentheses, opening_text, closing_text, bound_text}
 
 pub text-Child : (line : ℕ) (e : Tree) (name : List ℕ) → formula_text (tree.Child line e name) ≡ operand e (formula_text e) ++ codes "." ++ name
 unfolding hidden hidden-the_row-Tree-0
@@ -30,11 +31,13 @@ pub text-Not : (line : ℕ) (e : Tree) → formula_text (tree.Not line e) ≡ co
 unfolding hidden hidden-the_row-Tree-0
 text-Not line e = refl
 
-pub text-Binary : (line : ℕ) (op : Operator) (a b : Tree) → formula_text (tree.Binary line op a b) ≡ operand a (formula_text a) ++ codes " " ++ operator_text op ++ codes " " ++ operand b (formula_text b)
+pub text-Binary : (line : ℕ) (op : Operator) (a b : Tree) →
+    formula_text (tree.Binary line op a b) ≡ operand a (formula_text a) ++ codes " " ++ operator_text op ++ codes " " ++ operand b (formula_text b)
 unfolding hidden hidden-the_row-Tree-0
 text-Binary line op a b = refl
 
-pub text-If : (line : ℕ) (c a b : Tree) → formula_text (tree.If line c a b) ≡ codes "if " ++ formula_text c ++ codes " then " ++ formula_text a ++ codes " else " ++ formula_text b
+pub text-If : (line : ℕ) (c a b : Tree) →
+    formula_text (tree.If line c a b) ≡ codes "if " ++ formula_text c ++ codes " then " ++ formula_text a ++ codes " else " ++ formula_text b
 unfolding hidden hidden-the_row-Tree-0
 text-If line c a b = refl
 
@@ -42,12 +45,14 @@ pub text-Call : (line : ℕ) (f : Function) (e : Tree) → formula_text (tree.Ca
 unfolding hidden hidden-the_row-Tree-0
 text-Call line f e = refl
 
-pub text-Gather : (line : ℕ) (g : Gathering) (f : Tree) (x : List ℕ) (s : Tree) → formula_text (tree.Gather line g f x s) ≡ opening_text g ++ bound_text (formula_text f) x (formula_text s) ++ closing_text g
+pub text-Gather : (line : ℕ) (g : Gathering) (f : Tree) (x : List ℕ) (s : Tree) →
+    formula_text (tree.Gather line g f x s) ≡ opening_text g ++ bound_text (formula_text f) x (formula_text s) ++ closing_text g
 unfolding hidden hidden-the_row-Tree-0
 text-Gather line g f x s = refl
 
 pub text-GatherWhere : (line : ℕ) (g : Gathering) (f : Tree) (x : List ℕ) (s p : Tree)
-    → formula_text (tree.GatherWhere line g f x s p) ≡ opening_text g ++ bound_text (formula_text f) x (formula_text s) ++ codes " | " ++ formula_text p ++ closing_text g
+    → formula_text (tree.GatherWhere line g f x s p) ≡ opening_text g ++ bound_text (formula_text f) x (formula_text s) ++ codes " | " ++ formula_text
+    p ++ closing_text g
 unfolding hidden hidden-the_row-Tree-0
 text-GatherWhere line g f x s p = refl
 
@@ -66,7 +71,8 @@ join_map sep (e ∷ es) = ap (λ more. formula_text e ++ more) (flat_map-map (λ
 
 pub text-Set : (line : ℕ) (es : List Tree) → formula_text (tree.Set line es) ≡ codes "{" ++ join_by formula_text (codes ", ") es ++ codes "}"
 text-Set line es =
-    ap (λ texts. in_braces (join_by (λ text. text) (codes ", ") texts)) (each_text (hidden-the_row-Tree-1 es) ∙ ap (map formula_text) (items_hidden-the_row-Tree-1 es))
+    ap (λ texts. in_braces (join_by (λ text. text) (codes ", ") texts)) (each_text (hidden-the_row-Tree-1 es)
+    ∙ ap (map formula_text) (items_hidden-the_row-Tree-1 es))
     ∙ ap in_braces (join_map (codes ", ") es)
 
 -- ---- in one line
@@ -127,7 +133,8 @@ pub enclosed-Call : (line : ℕ) (f : Function) (e : Tree) → is_enclosed (tree
 unfolding hidden hidden-the_row-Tree-0
 enclosed-Call line f e = refl
 
-pub line-Gather : (line : ℕ) (g : Gathering) (f : Tree) (x : List ℕ) (s : Tree) → on_one_line (tree.Gather line g f x s) ≡ tree.Gather 1 g (on_one_line f) x (on_one_line s)
+pub line-Gather : (line : ℕ) (g : Gathering) (f : Tree) (x : List ℕ) (s : Tree) →
+    on_one_line (tree.Gather line g f x s) ≡ tree.Gather 1 g (on_one_line f) x (on_one_line s)
 unfolding hidden hidden-the_row-Tree-0
 line-Gather line g f x s = refl
 
@@ -135,7 +142,8 @@ pub enclosed-Gather : (line : ℕ) (g : Gathering) (f : Tree) (x : List ℕ) (s 
 unfolding hidden hidden-the_row-Tree-0
 enclosed-Gather line g f x s = refl
 
-pub line-GatherWhere : (line : ℕ) (g : Gathering) (f : Tree) (x : List ℕ) (s p : Tree) → on_one_line (tree.GatherWhere line g f x s p) ≡ tree.GatherWhere 1 g (on_one_line f) x (on_one_line s) (on_one_line p)
+pub line-GatherWhere : (line : ℕ) (g : Gathering) (f : Tree) (x : List ℕ) (s p : Tree) →
+    on_one_line (tree.GatherWhere line g f x s p) ≡ tree.GatherWhere 1 g (on_one_line f) x (on_one_line s) (on_one_line p)
 unfolding hidden hidden-the_row-Tree-0
 line-GatherWhere line g f x s p = refl
 

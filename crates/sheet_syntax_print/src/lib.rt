@@ -8,6 +8,3 @@ mod words;
 pub use formula::{append_formula, append_operand, print_formula};
 pub use law::a_printed_formula_reads_back;
 pub use words::{append, append_number, append_quoted};
-
-#[cfg(test)]
-mod tests;

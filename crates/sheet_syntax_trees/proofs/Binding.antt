@@ -17,7 +17,9 @@ use Rattle.sheet_syntax_trees.specs.declared.operators.Quantifier.{Quantifier}
 use Rattle.sheet_syntax_trees.specs.declared.tree.Tree.{Tree}
 use Rattle.sheet_syntax_trees.specs.Signs.{sign_of, sign_rank, same_sign}
 use Rattle.sheet_syntax_trees.specs.Operators.{operator_among, prefix_sign}
-use Rattle.sheet_syntax_trees.specs.Grammar.{Nonterminal, expression, chain, negation, unary, postfix, atom, operand, before, prefixing, unprefixed, Form, Produces, a_choice, no_choice, an_operand, an_operation, a_prefix, no_prefix, no_step, a_child, an_up, a_leaf, in_parentheses, no_set, a_set, a_comprehension, a_sum, a_call, a_test, function_of, quantifier_of}
+use Rattle.sheet_syntax_trees.specs.Grammar.{Nonterminal, expression, chain, negation, unary, postfix, atom, operand, before, prefixing, unprefixed, Form}
+use Rattle.sheet_syntax_trees.specs.Grammar.{Produces, a_choice, no_choice, an_operand, an_operation, a_prefix, no_prefix, no_step, a_child, an_up, a_leaf}
+use Rattle.sheet_syntax_trees.specs.Grammar.{in_parentheses, no_set, a_set, a_comprehension, a_sum, a_call, a_test, function_of, quantifier_of}
 use Rattle.sheet_syntax_trees.specs.Reading.{leaf, leaf_of}
 use Rattle.sheet_syntax_trees.proofs.SignLemmas.{same_is}
 
@@ -197,7 +199,8 @@ pub first_sign : (n : Nonterminal) (ts : List Token) (f : Form) → Produces n t
 first_sign _ _ _ (a_choice i t e cs xs ys c x y a b d g h k) = first_is 3 i _ (low_by (sign_of i.kind) sign.If 3 a (omega arith))
 first_sign _ _ _ (no_choice ts f p) = looser 2 3 ts (omega arith) (first_sign _ ts f p)
 first_sign _ _ _ (an_operand l ts f p) = looser (start (operand l)) (start (chain l)) ts (operand_start l) (first_sign _ ts f p)
-first_sign _ _ _ (an_operation l op o xs ys x y p is q) = looser (start (before l)) (start (chain l)) _ (before_start l) (first_more _ xs (o ∷ ys) (first_sign _ xs x p))
+first_sign _ _ _ (an_operation l op o xs ys x y p is q) =
+    looser (start (before l)) (start (chain l)) _ (before_start l) (first_more _ xs (o ∷ ys) (first_sign _ xs x p))
 first_sign _ _ _ (a_prefix p t ts f is q) = first_is (start (prefixing p)) t ts (low_by (sign_of t.kind) (prefix_sign p) _ is (prefix_start p))
 first_sign _ _ _ (no_prefix p ts f q) = looser (start (unprefixed p)) (start (prefixing p)) ts (unprefixed_start p) (first_sign _ ts f q)
 first_sign _ _ _ (no_step ts f p) = first_sign _ ts f p

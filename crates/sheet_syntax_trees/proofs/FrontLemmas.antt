@@ -8,7 +8,8 @@ use Rattle.sheet_syntax_trees.specs.declared.token.TokenKind.TheVariants.{Number
 use Rattle.sheet_syntax_trees.specs.declared.scan.Scan.{Scan}
 use Rattle.sheet_syntax_trees.specs.declared.scan.Scan.TheVariants.{Found, Bad, TooWide}
 use Rattle.sheet_syntax_trees.specs.Bytes.{is_letter, is_digit, is_in_word, is_before_equals, is_symbol, begins_with, run_length, symbol_length}
-use Rattle.sheet_syntax_trees.specs.Tokens.{text_from, word_kind, scan_word, scan_number, text_scan, symbol_scan, scan, is_short_text, has_leading_zero, digits_value}
+use Rattle.sheet_syntax_trees.specs.Tokens.{text_from, word_kind, scan_word, scan_number, text_scan, symbol_scan, scan, is_short_text, has_leading_zero}
+use Rattle.sheet_syntax_trees.specs.Tokens.{digits_value}
 use Rattle.sheet_syntax_trees.proofs.RunLemmas.{NoFeed, run_no_feed, in_word_no_feed, digit_no_feed, text_no_feed, quote_no_feed, chosen}
 
 abbrev pub count_of : Scan → ℕ → ℕ
@@ -28,10 +29,12 @@ word_count word kind len e =
 
 number_count : (digits : List ℕ) (kind : TokenKind) (len : ℕ) → scan_number digits ≡ Found kind len → length digits ≡ len
 number_count digits kind len e =
-    elim (chosen (has_leading_zero digits) Bad (if nat_le (digits_value 0 digits) 9223372036854775807 then Found (Number (pos (digits_value 0 digits))) (length digits) else TooWide) (Found kind len) e) [
+    elim (chosen (has_leading_zero digits) Bad (if nat_le (digits_value 0 digits) 9223372036854775807
+    then Found (Number (pos (digits_value 0 digits))) (length digits) else TooWide) (Found kind len) e) [
       | inl (h, found) ↦ let wrong : ⊥ = cc in absurd wrong
       | inr (h, more) ↦
-          elim (chosen (nat_le (digits_value 0 digits) 9223372036854775807) (Found (Number (pos (digits_value 0 digits))) (length digits)) TooWide (Found kind len) more) [
+          elim (chosen (nat_le (digits_value 0 digits) 9223372036854775807) (Found (Number (pos (digits_value 0 digits))) (length digits)) TooWide
+          (Found kind len) more) [
             | inl (h, found) ↦ same_count (Number (pos (digits_value 0 digits))) kind (length digits) len found
             | inr (h, found) ↦ let wrong : ⊥ = cc in absurd wrong
           ]
@@ -63,7 +66,8 @@ run_taken p (c ∷ cs) =
 letter_in_word : (c : ℕ) → is_letter c ≡ true → is_in_word c ≡ true
 letter_in_word c h = rw h refl
 
-run_front : (p : ℕ → Bool) (c : ℕ) (cs : List ℕ) (len : ℕ) → ((c : ℕ) → p c ≡ true → (c == 10) ≡ false) → p c ≡ true → length (take (run_length p (c ∷ cs)) (c ∷ cs)) ≡ len → (0 < len) × NoFeed len (c ∷ cs)
+run_front : (p : ℕ → Bool) (c : ℕ) (cs : List ℕ) (len : ℕ) → ((c : ℕ) → p c ≡ true → (c == 10) ≡ false) → p c ≡ true →
+    length (take (run_length p (c ∷ cs)) (c ∷ cs)) ≡ len → (0 < len) × NoFeed len (c ∷ cs)
 run_front p c cs len other here e =
     let count : run_length p (c ∷ cs) ≡ len = sym (run_taken p (c ∷ cs)) ∙ e in
     let first : run_length p (c ∷ cs) ≡ run_length p cs + 1 = rw here refl in
@@ -71,13 +75,19 @@ run_front p c cs len other here e =
     (omega arith, subst P count (run_no_feed p other (c ∷ cs)))
 
 symbol_no_feed : (c : ℕ) → is_symbol c ≡ true → (c == 10) ≡ false
-symbol_no_feed c h = elim (cases_Bool (c == 10)) [ inl feed ↦ (let e : c ≡ 10 = eqb-true c 10 feed in let P : ℕ → Type 0 = λ n. is_symbol n ≡ true in let wrong : false ≡ true = subst P e h in cc) | inr other ↦ other ]
+symbol_no_feed c h =
+    elim (cases_Bool (c == 10)) [
+      | inl feed ↦ (let e : c ≡ 10 = eqb-true c 10 feed in let P : ℕ → Type 0 = λ n. is_symbol n ≡ true in
+          let wrong : false ≡ true = subst P e h in cc)
+      | inr other ↦ other
+    ]
 
 equals_no_feed : (c : ℕ) (cs : List ℕ) → (is_before_equals c && begins_with 61 cs) ≡ true → NoFeed 2 (c ∷ cs)
 equals_no_feed c [] h = let wrong : ⊥ = grind (arith, common_steps) in absurd wrong
 equals_no_feed c (d ∷ ds) h = (grind (arith, common_steps), (grind (arith, common_steps), tt))
 
-by_length : (two one : Bool) (c : ℕ) (cs : List ℕ) → (two ≡ true → NoFeed 2 (c ∷ cs)) → (one ≡ true → (c == 10) ≡ false) → ((if two then 2 else (if one then 1 else 0)) == 0) ≡ false
+by_length : (two one : Bool) (c : ℕ) (cs : List ℕ) → (two ≡ true → NoFeed 2 (c ∷ cs)) → (one ≡ true → (c == 10) ≡ false) →
+    ((if two then 2 else (if one then 1 else 0)) == 0) ≡ false
     → (0 < (if two then 2 else (if one then 1 else 0))) × NoFeed (if two then 2 else (if one then 1 else 0)) (c ∷ cs)
 by_length true one c cs pair single h = (omega arith, pair refl)
 by_length false true c cs pair single h = (omega arith, (single refl, tt))
@@ -93,7 +103,8 @@ front_no_feed c cs kind len e =
     let text = text_scan (text_from false cs) in
     let symbol = symbol_scan (symbol_length (c ∷ cs)) (c ∷ cs) in
     elim (chosen (is_letter c) word (if is_digit c then number else (if c == 34 then text else symbol)) (Found kind len) e) [
-      | inl (letter, found) ↦ run_front is_in_word c cs len in_word_no_feed (letter_in_word c letter) (word_count (take (run_length is_in_word (c ∷ cs)) (c ∷ cs)) kind len found)
+      | inl (letter, found) ↦
+          run_front is_in_word c cs len in_word_no_feed (letter_in_word c letter) (word_count (take (run_length is_in_word (c ∷ cs)) (c ∷ cs)) kind len found)
       | inr (h, more) ↦
           elim (chosen (is_digit c) number (if c == 34 then text else symbol) (Found kind len) more) [
             | inl (digit, found) ↦ run_front is_digit c cs len digit_no_feed digit (number_count (take (run_length is_digit (c ∷ cs)) (c ∷ cs)) kind len found)

@@ -1,5 +1,6 @@
 -- The tokens of a text are in order.
-use Rattle.std.proofs.Common.{◌≡◌, ℕ, zero, suc, ◌+◌, ◌-◌, ◌≤◌, List, [], ◌∷◌, ◌++◌, length, drop, Bool, true, false, Ok, Err, refl, sym, subst, arith, append-nil}
+use Rattle.std.proofs.Common.{◌≡◌, ℕ, zero, suc, ◌+◌, ◌-◌, ◌≤◌, List, [], ◌∷◌, ◌++◌, length, drop, Bool, true, false, Ok, Err, refl, sym, subst, arith}
+use Rattle.std.proofs.Common.{append-nil}
 use Rattle.std.specs.Prelude.{Result, if◌then◌else◌, ◌==◌}
 use Rattle.sheet_syntax_trees.specs.declared.token.Token.{Token}
 use Rattle.sheet_syntax_trees.specs.declared.token.SyntaxRefusal.{SyntaxRefusal}
@@ -34,7 +35,8 @@ choice : (b : Bool) (x y : Told) (ts : List Token) (P : Type 0) → (if b then x
 choice true x y ts P h f g = f h
 choice false x y ts P h f g = g h
 
-scanned_order : (at line end : ℕ) (s : Scan) (behind : ℕ → Told) (ts : List Token) → scanned at line s behind ≡ Ok ts → ((n : ℕ) (more : List Token) → behind n ≡ Ok more → InOrder (at + 1) end more) → InOrder at end ts
+scanned_order : (at line end : ℕ) (s : Scan) (behind : ℕ → Told) (ts : List Token) → scanned at line s behind ≡ Ok ts →
+    ((n : ℕ) (more : List Token) → behind n ≡ Ok more → InOrder (at + 1) end more) → InOrder at end ts
 scanned_order at line end (Found kind len) behind ts h go =
     let (more, told, is) = put_before (record { kind = kind; start = at; end = at + len; line = line }) (behind len) ts h in
     let P : List Token → Type 0 = λ l. InOrder at end l in
@@ -60,9 +62,11 @@ from_order [] at line passed ts h = let P : List Token → Type 0 = λ l. InOrde
 from_order (c ∷ cs) at line (suc passed) ts h = further at c cs ts (from_order cs (at + 1) (line_after c line) passed ts h)
 from_order (c ∷ cs) at line zero ts h =
     choice (is_blank c) (tokens_from cs (at + 1) (line_after c line) 0)
-    (if c == 35 then tokens_from cs (at + 1) line (run_length is_in_comment cs) else scanned at line (scan (c ∷ cs)) (λ len. tokens_from cs (at + 1) line (len - 1))) ts (InOrder at (at + length (c ∷ cs)) ts) h
+    (if c == 35 then tokens_from cs (at + 1) line (run_length is_in_comment cs)
+    else scanned at line (scan (c ∷ cs)) (λ len. tokens_from cs (at + 1) line (len - 1))) ts (InOrder at (at + length (c ∷ cs)) ts) h
     (λ told. further at c cs ts (from_order cs (at + 1) (line_after c line) 0 ts told))
-    (λ told. choice (c == 35) (tokens_from cs (at + 1) line (run_length is_in_comment cs)) (scanned at line (scan (c ∷ cs)) (λ len. tokens_from cs (at + 1) line (len - 1))) ts (InOrder at (at + length (c ∷ cs)) ts) told
+    (λ told. choice (c == 35) (tokens_from cs (at + 1) line (run_length is_in_comment cs))
+    (scanned at line (scan (c ∷ cs)) (λ len. tokens_from cs (at + 1) line (len - 1))) ts (InOrder at (at + length (c ∷ cs)) ts) told
     (λ again. further at c cs ts (from_order cs (at + 1) line (run_length is_in_comment cs) ts again))
     (λ again. scanned_order at line (at + length (c ∷ cs)) (scan (c ∷ cs)) (λ len. tokens_from cs (at + 1) line (len - 1)) ts again
     (λ n more is. behind_one at c cs more (from_order cs (at + 1) line (n - 1) more is))))
@@ -71,7 +75,8 @@ pub lexed_order : (text : List ℕ) (ts : List Token) → lexed text ≡ Ok ts �
 lexed_order text ts h = let P : ℕ → Type 0 = λ n. InOrder 0 n ts in subst P (omega arith) (from_order text 0 1 0 ts h)
 
 -- the tokens that were read when none is left
-pub order_at_end : (text rest : List ℕ) (at line : ℕ) (list : List Token) → length rest ≡ 0 → with_tokens list (tokens_from rest at line 0) ≡ lexed text → InOrder 0 (length text) list
+pub order_at_end : (text rest : List ℕ) (at line : ℕ) (list : List Token) → length rest ≡ 0 → with_tokens list (tokens_from rest at line 0) ≡ lexed text →
+    InOrder 0 (length text) list
 order_at_end text [] at line list none told =
     let P : List Token → Type 0 = λ l. InOrder 0 (length text) l in
     subst P (append-nil list) (lexed_order text (list ++ []) (sym told))

@@ -1,5 +1,6 @@
 -- What is known of the kinds of tokens that a text has.
-use Rattle.std.proofs.Common.{◌≡◌, ℕ, ◌+◌, ◌-◌, zero, suc, List, [], ◌∷◌, ◌++◌, length, take, Bool, true, false, refl, sym, ap, ◌∙◌, subst, inl, inr, arith, add-one, Ok, Err, pos}
+use Rattle.std.proofs.Common.{◌≡◌, ℕ, ◌+◌, ◌-◌, zero, suc, List, [], ◌∷◌, ◌++◌, length, take, Bool, true, false, refl, sym, ap, ◌∙◌, subst, inl, inr, arith}
+use Rattle.std.proofs.Common.{add-one, Ok, Err, pos}
 use Rattle.std.specs.Prelude.{◌==◌, nat_le, Option, Some, None, option_and_then, if◌then◌else◌, Result, ◌⊎◌}
 use Rattle.std.proofs.lemmas.Bool.{cases_Bool}
 use Rattle.std.proofs.lemmas.Grind.{common_steps}
@@ -10,7 +11,8 @@ use Rattle.sheet_syntax_trees.specs.declared.token.SyntaxRefusal.{SyntaxRefusal}
 use Rattle.sheet_syntax_trees.specs.declared.scan.Scan.{Scan}
 use Rattle.sheet_syntax_trees.specs.declared.scan.Scan.TheVariants.{Found, Bad, TooWide}
 use Rattle.sheet_syntax_trees.specs.Bytes.{is_letter, is_digit, is_blank, is_plain, is_in_word, is_in_comment, run_length, symbol_length}
-use Rattle.sheet_syntax_trees.specs.Tokens.{is_reserved, digits_value, has_leading_zero, word_kind, scan_word, scan_number, escaped, with_content, text_from, is_short_text, text_scan, symbol_scan, scan, scanned, with_tokens, tokens_from, line_after, lexed}
+use Rattle.sheet_syntax_trees.specs.Tokens.{is_reserved, digits_value, has_leading_zero, word_kind, scan_word, scan_number, escaped, with_content, text_from}
+use Rattle.sheet_syntax_trees.specs.Tokens.{is_short_text, text_scan, symbol_scan, scan, scanned, with_tokens, tokens_from, line_after, lexed}
 use Rattle.sheet_syntax_trees.proofs.RunLemmas.{chosen}
 use Rattle.sheet_syntax_trees.proofs.Seeing.{AllPass, IsWord, TextByte, TextBytes}
 
@@ -56,7 +58,8 @@ word_kinds w k h e =
       | inr r ↦ (let same : kind.Name w ≡ k = sym (rw r refl) ∙ e in subst Lexable same (h, r))
     ]
 
-word_scan : (c : ℕ) (cs : List ℕ) (k : TokenKind) (len : ℕ) → is_letter c ≡ true → scan_word (take (run_length is_in_word (c ∷ cs)) (c ∷ cs)) ≡ Found k len → Lexable k
+word_scan : (c : ℕ) (cs : List ℕ) (k : TokenKind) (len : ℕ) → is_letter c ≡ true → scan_word (take (run_length is_in_word (c ∷ cs)) (c ∷ cs)) ≡ Found k len →
+    Lexable k
 word_scan c cs k len letter e =
     let inside = letter_in_word c letter in
     let front : take (run_length is_in_word (c ∷ cs)) (c ∷ cs) ≡ c ∷ take (run_length is_in_word cs) cs = rw (inside, add-one) refl in
@@ -64,22 +67,33 @@ word_scan c cs k len letter e =
     let e' : scan_word w ≡ Found k len = ap scan_word (sym front) ∙ e in
     elim (chosen (nat_le (length w) 63) (Found (word_kind w) (length w)) Bad (Found k len) e') [
       | inl (short, found) ↦
-          word_kinds w k (record { first = c; others = take (run_length is_in_word cs) cs; is = refl; letter = letter; passes = (inside, pass_take is_in_word cs); short = short }) (same_kind (word_kind w) k (length w) len found)
+          word_kinds w k (record {
+            first = c;
+            others = take (run_length is_in_word cs) cs;
+            is = refl;
+            letter = letter;
+            passes =
+                (inside, pass_take is_in_word cs);
+            short = short;
+          }) (same_kind (word_kind w) k (length w) len found)
       | inr (h, found) ↦ (let wrong : ⊥ = cc in absurd wrong)
     ]
 
 number_scan : (ds : List ℕ) (k : TokenKind) (len : ℕ) → scan_number ds ≡ Found k len → Lexable k
 number_scan ds k len e =
-    elim (chosen (has_leading_zero ds) Bad (if nat_le (digits_value 0 ds) 9223372036854775807 then Found (kind.Number (pos (digits_value 0 ds))) (length ds) else TooWide) (Found k len) e) [
+    elim (chosen (has_leading_zero ds) Bad (if nat_le (digits_value 0 ds) 9223372036854775807 then Found (kind.Number (pos (digits_value 0 ds))) (length ds)
+    else TooWide) (Found k len) e) [
       | inl (h, found) ↦ (let wrong : ⊥ = cc in absurd wrong)
       | inr (h, more) ↦
-          elim (chosen (nat_le (digits_value 0 ds) 9223372036854775807) (Found (kind.Number (pos (digits_value 0 ds))) (length ds)) TooWide (Found k len) more) [
+          let number : TokenKind = kind.Number (pos (digits_value 0 ds)) in
+          elim (chosen (nat_le (digits_value 0 ds) 9223372036854775807) (Found number (length ds)) TooWide (Found k len) more) [
             | inl (fits, found) ↦ subst Lexable (same_kind (kind.Number (pos (digits_value 0 ds))) k (length ds) len found) (digits_value 0 ds, refl, fits)
             | inr (h, found) ↦ (let wrong : ⊥ = cc in absurd wrong)
           ]
     ]
 
-content_some : (content : List ℕ) (taken : ℕ) (more : Option (List ℕ × ℕ)) (p : List ℕ × ℕ) → with_content content taken more ≡ Some p → (q : List ℕ × ℕ) × (more ≡ Some q) × (p.0 ≡ content ++ q.0)
+content_some : (content : List ℕ) (taken : ℕ) (more : Option (List ℕ × ℕ)) (p : List ℕ × ℕ) → with_content content taken more ≡ Some p →
+    (q : List ℕ × ℕ) × (more ≡ Some q) × (p.0 ≡ content ++ q.0)
 content_some content taken None p e = let wrong : ⊥ = cc in absurd wrong
 content_some content taken (Some q) p e =
     let same : (content ++ q.0, taken + q.1) ≡ p = cc in
@@ -118,10 +132,12 @@ text_bytes true (c ∷ cs) p e =
     let (q, more, content) = content_some (b ∷ []) 1 (text_from false cs) p after in
     subst TextBytes (sym content) (escaped_byte c b is, text_bytes false cs q more)
 text_bytes false (c ∷ cs) p e =
-    elim (chosen (c == 34) (Some ([], 1)) (if c == 92 then with_content [] 1 (text_from true cs) else (if is_plain c then with_content (c ∷ []) 1 (text_from false cs) else None)) (Some p) e) [
+    elim (chosen (c == 34) (Some ([], 1)) (if c == 92 then with_content [] 1 (text_from true cs)
+    else (if is_plain c then with_content (c ∷ []) 1 (text_from false cs) else None)) (Some p) e) [
       | inl (quote, end) ↦ (let same : ([], 1) ≡ p = cc in let content : [] ≡ p.0 = ap (λ (x : List ℕ × ℕ). x.0) same in subst TextBytes content tt)
       | inr (quote, more) ↦
-          elim (chosen (c == 92) (with_content [] 1 (text_from true cs)) (if is_plain c then with_content (c ∷ []) 1 (text_from false cs) else None) (Some p) more) [
+          elim (chosen (c == 92) (with_content [] 1 (text_from true cs)) (if is_plain c then with_content (c ∷ []) 1 (text_from false cs) else None) (Some p)
+          more) [
             | inl (slash, after) ↦
                 (let (q, rest, content) = content_some [] 1 (text_from true cs) p after in
                 subst TextBytes (sym content) (text_bytes true cs q rest))
@@ -181,7 +197,8 @@ put_before : (t : Token) (r : Told) (ts : List Token) → with_tokens (t ∷ [])
 put_before t (Ok more) ts h = (more, refl, (let same : t ∷ more ≡ ts = cc in sym same))
 put_before t (Err e) ts h = let wrong : ⊥ = cc in absurd wrong
 
-scanned_good : (at line : ℕ) (s : Scan) (behind : ℕ → Told) (ts : List Token) → ((k : TokenKind) (len : ℕ) → s ≡ Found k len → Lexable k) → scanned at line s behind ≡ Ok ts → ((n : ℕ) (more : List Token) → behind n ≡ Ok more → Good more) → Good ts
+scanned_good : (at line : ℕ) (s : Scan) (behind : ℕ → Told) (ts : List Token) → ((k : TokenKind) (len : ℕ) → s ≡ Found k len → Lexable k) →
+    scanned at line s behind ≡ Ok ts → ((n : ℕ) (more : List Token) → behind n ≡ Ok more → Good more) → Good ts
 scanned_good at line (Found k len) behind ts kinds h go =
     let (more, told, is) = put_before (record { kind = k; start = at; end = at + len; line = line }) (behind len) ts h in
     subst Good (sym is) (kinds k len refl, go len more told)
@@ -193,9 +210,11 @@ tokens_good [] at line passed ts h = let same : [] ≡ ts = cc in subst Good sam
 tokens_good (c ∷ cs) at line (suc passed) ts h = tokens_good cs (at + 1) (line_after c line) passed ts h
 tokens_good (c ∷ cs) at line zero ts h =
     choice (is_blank c) (tokens_from cs (at + 1) (line_after c line) 0)
-    (if c == 35 then tokens_from cs (at + 1) line (run_length is_in_comment cs) else scanned at line (scan (c ∷ cs)) (λ len. tokens_from cs (at + 1) line (len - 1))) ts (Good ts) h
+    (if c == 35 then tokens_from cs (at + 1) line (run_length is_in_comment cs)
+    else scanned at line (scan (c ∷ cs)) (λ len. tokens_from cs (at + 1) line (len - 1))) ts (Good ts) h
     (λ told. tokens_good cs (at + 1) (line_after c line) 0 ts told)
-    (λ told. choice (c == 35) (tokens_from cs (at + 1) line (run_length is_in_comment cs)) (scanned at line (scan (c ∷ cs)) (λ len. tokens_from cs (at + 1) line (len - 1))) ts (Good ts) told
+    (λ told. choice (c == 35) (tokens_from cs (at + 1) line (run_length is_in_comment cs))
+    (scanned at line (scan (c ∷ cs)) (λ len. tokens_from cs (at + 1) line (len - 1))) ts (Good ts) told
     (λ again. tokens_good cs (at + 1) line (run_length is_in_comment cs) ts again)
     (λ again. scanned_good at line (scan (c ∷ cs)) (λ len. tokens_from cs (at + 1) line (len - 1)) ts (scan_kinds (c ∷ cs)) again
     (λ n more is. tokens_good cs (at + 1) line (n - 1) more is)))

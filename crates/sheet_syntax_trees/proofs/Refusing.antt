@@ -30,7 +30,15 @@ same_nested : (o p : ℕ) → ◌≡◌ {A = SyntaxRefusal} (TooNested o) (TooNe
 same_nested o p h = cc
 
 begun_by : (end : ℕ) (ts : List Token) (o : ℕ) → Stop 32 32 end expression ts (Expected o) → Begun end ts o
-begun_by end ts o (waits front rest more w split p same) = record { front = front; rest = rest; split = split; here = same_offset o (offset end rest) same; begins = record { behind = more; whole = w; produced = p } }
+begun_by end ts o (waits front rest more w split p same) =
+    record {
+      front = front;
+      rest = rest;
+      split = split;
+      here = same_offset o (offset end rest) same;
+      begins =
+          record { behind = more; whole = w; produced = p };
+    }
 begun_by end ts o (crowded front rest more b w split bracket raised p same) = let wrong : ⊥ = cc in absurd wrong
 begun_by end ts o (deep front mid rest m f split a p depth same) = let wrong : ⊥ = cc in absurd wrong
 
@@ -38,8 +46,10 @@ nested_by : (end : ℕ) (ts : List Token) (o : ℕ) → Stop 32 32 end expressio
 nested_by end ts o (waits front rest more w split p same) = let wrong : ⊥ = cc in absurd wrong
 nested_by end ts o (crowded front rest more b w split bracket raised p same) =
     let P : List Token → Type 0 = λ l. Produces expression l w in
-    a_bracket front rest b split bracket raised.is (record { behind = more; whole = w; produced = subst P (sym (append_assoc front (b ∷ []) more)) p }) (same_nested o b.start same)
-nested_by end ts o (deep front mid rest m f split a p depth same) = a_form front mid rest m f split a p (depth ∙ omega arith) (same_nested o (offset end mid) same)
+    a_bracket front rest b split bracket raised.is (record { behind = more; whole = w; produced = subst P (sym (append_assoc front (b ∷ []) more)) p })
+    (same_nested o b.start same)
+nested_by end ts o (deep front mid rest m f split a p depth same) =
+    a_form front mid rest m f split a p (depth ∙ omega arith) (same_nested o (offset end mid) same)
 
 -- ---- tokens in order are divided in one way by an offset
 
@@ -51,7 +61,7 @@ lowest low end (t ∷ front) rest h = let a = h.0 in let b = lowest (t.start + 1
 head_is : (t u : Token) (ts us : List Token) → t ∷ ts ≡ u ∷ us → (t ≡ u) × (ts ≡ us)
 head_is t u ts us h = (cc, cc)
 
-divided : (low end : ℕ) (f g r s : List Token) → InOrder low end (f ++ r) → f ++ r ≡ g ++ s → offset end r ≡ offset end s → (f ≡ g) × (r ≡ s)
+pub divided : (low end : ℕ) (f g r s : List Token) → InOrder low end (f ++ r) → f ++ r ≡ g ++ s → offset end r ≡ offset end s → (f ≡ g) × (r ≡ s)
 divided low end [] [] r s o is h = (refl, is)
 divided low end [] (u ∷ g) r s o is h =
     let P : List Token → Type 0 = λ l. InOrder low end l in
@@ -78,23 +88,34 @@ first_by end ts o order b g =
     record { front = b.front; rest = b.rest; split = b.split; here = b.here; begins = subst Q fronts g.begins; none = b.none }
 
 err_or_behind : (end : ℕ) (e : SyntaxRefusal) (r : Answer (Formed × List Token)) → ◌≡◌ {A = Answer Tree} (r >>= reading.nothing_behind end) (Err e)
-    → (◌≡◌ {A = Answer (Formed × List Token)} r (Err e)) ⊎ ((f : Formed) × (t : Token) × (rest : List Token) × (◌≡◌ {A = Answer (Formed × List Token)} r (Ok (f, t ∷ rest))) × (e ≡ Expected t.start))
+    → (◌≡◌ {A = Answer (Formed × List Token)} r (Err e)) ⊎
+    ((f : Formed) × (t : Token) × (rest : List Token) × (◌≡◌ {A = Answer (Formed × List Token)} r (Ok (f, t ∷ rest))) × (e ≡ Expected t.start))
 err_or_behind end e (Err d) h = inl (let same : d ≡ e = cc in ap Err same)
 err_or_behind end e (Ok (f, [])) h = let wrong : ⊥ = cc in absurd wrong
 err_or_behind end e (Ok (f, t ∷ rest)) h = inr (f, t, rest, refl, cc)
 
-begun_behind : (end : ℕ) (ts : List Token) (o : ℕ) (f : Formed) (t : Token) (rest : List Token) → reading.formula_at 32 32 end ts ≡ Ok (f, t ∷ rest) → o ≡ t.start → Begun end ts o
+begun_behind : (end : ℕ) (ts : List Token) (o : ℕ) (f : Formed) (t : Token) (rest : List Token) → reading.formula_at 32 32 end ts ≡ Ok (f, t ∷ rest) →
+    o ≡ t.start → Begun end ts o
 unfolding reading.formula_at
 begun_behind end ts o f t rest h here =
     let s = within_sound 32 end (omega arith) (length ts + 1) 32 ts (f, t ∷ rest) h in
     let P : List Token → Type 0 = λ l. Produces expression l (form f.tree f.depth s.nest) in
-    record { front = s.front; rest = t ∷ rest; split = s.split; here = here; begins = record { behind = []; whole = form f.tree f.depth s.nest; produced = subst P (sym (append-nil s.front)) s.produced } }
+    record {
+      front = s.front;
+      rest = t ∷ rest;
+      split = s.split;
+      here = here;
+      begins =
+          record { behind = []; whole = form f.tree f.depth s.nest; produced = subst P (sym (append-nil s.front)) s.produced };
+    }
 
 pub first_at : (end : ℕ) (ts : List Token) (o : ℕ) → InOrder 0 end ts → reading.formula_at 32 32 end ts ≡ Err (Expected o) → IsFirst end ts o
 first_at end ts o order h = first_by end ts o order (blocked_at end ts o h) (begun_by end ts o (formula_stops 32 32 end (omega arith) ts (Expected o) h))
 
-pub first_behind : (end : ℕ) (ts : List Token) (f : Formed) (t : Token) (rest : List Token) → InOrder 0 end ts → reading.formula_at 32 32 end ts ≡ Ok (f, t ∷ rest) → IsFirst end ts t.start
-first_behind end ts f t rest order h = first_by end ts t.start order (blocked_behind end ts t.start f t rest refl h) (begun_behind end ts t.start f t rest h refl)
+pub first_behind : (end : ℕ) (ts : List Token) (f : Formed) (t : Token) (rest : List Token) → InOrder 0 end ts →
+    reading.formula_at 32 32 end ts ≡ Ok (f, t ∷ rest) → IsFirst end ts t.start
+first_behind end ts f t rest order h =
+    first_by end ts t.start order (blocked_behind end ts t.start f t rest refl h) (begun_behind end ts t.start f t rest h refl)
 
 pub first : (end : ℕ) (ts : List Token) (o : ℕ) → InOrder 0 end ts → reading.whole_formula end ts ≡ Err (Expected o) → IsFirst end ts o
 first end ts o order h =

@@ -54,7 +54,8 @@ pub chosen : {A : Type 0} (b : Bool) (x y z : A) → (if b then x else y) ≡ z 
 chosen true x y z e = inl (refl, e)
 chosen false x y z e = inr (refl, e)
 
-content_some : (content : List ℕ) (taken : ℕ) (more : Option (List ℕ × ℕ)) (p : List ℕ × ℕ) → with_content content taken more ≡ Some p → (q : List ℕ × ℕ) × (more ≡ Some q) × (p.1 ≡ taken + q.1)
+content_some : (content : List ℕ) (taken : ℕ) (more : Option (List ℕ × ℕ)) (p : List ℕ × ℕ) → with_content content taken more ≡ Some p →
+    (q : List ℕ × ℕ) × (more ≡ Some q) × (p.1 ≡ taken + q.1)
 content_some content taken None p e = let wrong : ⊥ = cc in absurd wrong
 content_some content taken (Some q) p e =
     let same : (content ++ q.0, taken + q.1) ≡ p = cc in
@@ -86,10 +87,12 @@ text_no_feed true (c ∷ cs) p e =
     let (q, more, count) = content_some (b ∷ []) 1 (text_from false cs) p after in
     one_more q.1 p.1 c cs count (escaped_no_feed c b is) (text_no_feed false cs q more)
 text_no_feed false (c ∷ cs) p e =
-    elim (chosen (c == 34) (Some ([], 1)) (if c == 92 then with_content [] 1 (text_from true cs) else (if is_plain c then with_content (c ∷ []) 1 (text_from false cs) else None)) (Some p) e) [
+    elim (chosen (c == 34) (Some ([], 1)) (if c == 92 then with_content [] 1 (text_from true cs)
+    else (if is_plain c then with_content (c ∷ []) 1 (text_from false cs) else None)) (Some p) e) [
       | inl (quote, end) ↦ let same : ([], 1) ≡ p = cc in one_more 0 p.1 c cs (sym (ap (λ (x : List ℕ × ℕ). x.1) same)) (quote_no_feed c quote) tt
       | inr (h, more) ↦
-          elim (chosen (c == 92) (with_content [] 1 (text_from true cs)) (if is_plain c then with_content (c ∷ []) 1 (text_from false cs) else None) (Some p) more) [
+          elim (chosen (c == 92) (with_content [] 1 (text_from true cs)) (if is_plain c then with_content (c ∷ []) 1 (text_from false cs) else None) (Some p)
+          more) [
             | inl (slash, after) ↦
                 let (q, rest, count) = content_some [] 1 (text_from true cs) p after in
                 one_more q.1 p.1 c cs count (backslash_no_feed c slash) (text_no_feed true cs q rest)

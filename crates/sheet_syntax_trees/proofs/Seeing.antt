@@ -1,5 +1,6 @@
 -- What the bytes of printed formulas are read as.
-use Rattle.std.proofs.Common.{◌≡◌, ℕ, ◌<◌, ◌≤◌, ◌+◌, ◌-◌, ◌*◌, ◌/◌, ◌%◌, ◌^◌, zero, suc, List, [], ◌∷◌, ◌++◌, length, take, Bool, true, false, refl, sym, ap, ◌∙◌, subst, arith, add-one, append_assoc, Ok, Err, pos}
+use Rattle.std.proofs.Common.{◌≡◌, ℕ, ◌<◌, ◌≤◌, ◌+◌, ◌-◌, ◌*◌, ◌/◌, ◌%◌, ◌^◌, zero, suc, List, [], ◌∷◌, ◌++◌, length, take, Bool, true, false, refl, sym, ap}
+use Rattle.std.proofs.Common.{◌∙◌, subst, arith, add-one, append_assoc, Ok, Err, pos}
 use Rattle.std.specs.Prelude.{◌==◌, nat_le, Some, if◌then◌else◌, Result, ◌⊎◌}
 use Rattle.std.specs.Fmt.{decimal, signed_decimal}
 use Rattle.std.proofs.lemmas.Fmt.{decimal_by_steps}
@@ -11,7 +12,8 @@ use Rattle.sheet_syntax_trees.specs.declared.token.TokenKind.TheVariants as kind
 use Rattle.sheet_syntax_trees.specs.declared.token.SyntaxRefusal.{SyntaxRefusal}
 use Rattle.sheet_syntax_trees.specs.declared.scan.Scan.TheVariants.{Found, Bad}
 use Rattle.sheet_syntax_trees.specs.Bytes.{is_letter, is_digit, is_blank, is_plain, is_in_word, run_length}
-use Rattle.sheet_syntax_trees.specs.Tokens.{digits_value, has_leading_zero, word_kind, scan_word, scan_number, text_from, is_short_text, text_scan, scan, with_tokens, tokens_from}
+use Rattle.sheet_syntax_trees.specs.Tokens.{digits_value, has_leading_zero, word_kind, scan_word, scan_number, text_from, is_short_text, text_scan, scan}
+use Rattle.sheet_syntax_trees.specs.Tokens.{with_tokens, tokens_from}
 use Rattle.sheet_syntax_trees.proofs.FrontLemmas.{front_no_feed}
 use Rattle.sheet_syntax_trees.proofs.Turning.{passed_over}
 
@@ -37,17 +39,27 @@ with_both xs ys (Err e) = refl
 
 pub both_seen : (a b rest : List ℕ) (at : ℕ) (xs ys : List Token) (s : Seen a (b ++ rest) at xs) → Seen b rest s.to ys → Seen (a ++ b) rest at (xs ++ ys)
 both_seen a b rest at xs ys s t =
-    record { to = t.to; told = ap (λ l. tokens_from l at 1 0) (append_assoc a b rest) ∙ s.told ∙ ap (with_tokens xs) t.told ∙ sym (with_both xs ys (tokens_from rest t.to 1 0)) }
+    record {
+      to = t.to;
+      told = ap (λ l. tokens_from l at 1 0) (append_assoc a b rest) ∙ s.told ∙ ap (with_tokens xs) t.told
+          ∙ sym (with_both xs ys (tokens_from rest t.to 1 0));
+    }
 
 -- ---- a token at the front
 
-pub front_seen : (c : ℕ) (w rest : List ℕ) (at : ℕ) (k : TokenKind) → is_blank c ≡ false → (c == 35) ≡ false → scan (c ∷ (w ++ rest)) ≡ Found k (length (c ∷ w)) → Seen (c ∷ w) rest at (token k at (at + length (c ∷ w)) ∷ [])
+pub front_seen : (c : ℕ) (w rest : List ℕ) (at : ℕ) (k : TokenKind) → is_blank c ≡ false → (c == 35) ≡ false →
+    scan (c ∷ (w ++ rest)) ≡ Found k (length (c ∷ w)) → Seen (c ∷ w) rest at (token k at (at + length (c ∷ w)) ∷ [])
 front_seen c w rest at k blank comment e =
     let front = front_no_feed c (w ++ rest) k (length (c ∷ w)) e in
     let d : length (c ∷ w) - 1 ≡ length w = omega arith in
     let t : Token = token k at (at + length (c ∷ w)) in
-    let over : tokens_from (w ++ rest) (at + 1) 1 (length w) ≡ tokens_from rest (at + 1 + length w) 1 0 = passed_over (length w) (w ++ rest) (at + 1) 1 front.1.1 ∙ ap (λ l. tokens_from l (at + 1 + length w) 1 0) (drop-append_seam w rest) in
-    record { to = at + 1 + length w; told = rw (blank, comment, e) (ap (λ n. with_tokens (t ∷ []) (tokens_from (w ++ rest) (at + 1) 1 n)) d ∙ ap (with_tokens (t ∷ [])) over) }
+    let over : tokens_from (w ++ rest) (at + 1) 1 (length w) ≡ tokens_from rest (at + 1 + length w) 1 0 =
+    passed_over (length w) (w ++ rest) (at + 1) 1 front.1.1 ∙ ap (λ l. tokens_from l (at + 1 + length w) 1 0) (drop-append_seam w rest) in
+    record {
+      to = at + 1 + length w;
+      told =
+          rw (blank, comment, e) (ap (λ n. with_tokens (t ∷ []) (tokens_from (w ++ rest) (at + 1) 1 n)) d ∙ ap (with_tokens (t ∷ [])) over);
+    }
 
 if_true : {A : Type 0} (b : Bool) (x y : A) → b ≡ true → (if b then x else y) ≡ x
 if_true b x y h = rw h refl
@@ -113,9 +125,13 @@ word_seen text rest at w ends =
     let whole = w.first ∷ w.others in
     let taken = run_front is_in_word whole rest w.passes (word_halts rest ends) in
     let found : scan (w.first ∷ (w.others ++ rest)) ≡ Found (word_kind whole) (length whole) =
-    if_true (is_letter w.first) (scan_word (take (run_length is_in_word (whole ++ rest)) (whole ++ rest))) _ w.letter ∙ ap scan_word taken ∙ if_true (nat_le (length whole) 63) (Found (word_kind whole) (length whole)) Bad w.short in
+    if_true (is_letter w.first) (scan_word (take (run_length is_in_word (whole ++ rest)) (whole ++ rest))) _ w.letter ∙ ap scan_word taken
+    ∙ if_true (nat_le (length whole) 63) (Found (word_kind whole) (length whole)) Bad w.short in
     let P : List ℕ → Type 0 = λ l. (end : ℕ) × Seen l rest at (token (word_kind l) at end ∷ []) in
-    subst P (sym w.is) (at + length whole, front_seen w.first w.others rest at (word_kind whole) (letter_blank w.first w.letter) (letter_comment w.first w.letter) found)
+    subst P (sym w.is) (
+      at + length whole,
+      front_seen w.first w.others rest at (word_kind whole) (letter_blank w.first w.letter) (letter_comment w.first w.letter) found,
+    )
 
 -- ---- numbers
 
@@ -135,7 +151,16 @@ not_zero_digit : (n : ℕ) → 0 < n → ((48 + n) == 48) ≡ false
 not_zero_digit n h = grind (arith, common_steps)
 
 one_digit : (n : ℕ) → n < 10 → Numeral n ((48 + n) ∷ [])
-one_digit n h = record { first = 48 + n; others = []; is = refl; passes = (digit_of n h, tt); value = omega arith; positive = not_zero_digit n; single = λ e. refl }
+one_digit n h = record {
+  first = 48 + n;
+  others = [];
+  is = refl;
+  passes = (digit_of n h, tt);
+  value = omega arith;
+  positive = not_zero_digit n;
+  single =
+      λ e. refl;
+}
 
 value_append : (v : ℕ) (ds : List ℕ) (d : ℕ) → digits_value v (ds ++ d ∷ []) ≡ digits_value v ds * 10 + (d - 48)
 value_append v [] d = refl
@@ -169,7 +194,8 @@ leading_by n d [] a b = refl
 leading_by zero d (e ∷ ds) a b = let wrong : (e ∷ ds) ≡ [] = b refl in let no : ⊥ = cc in absurd no
 leading_by (suc n) d (e ∷ ds) a b = a (omega arith)
 
-pub number_seen : (n : ℕ) (rest : List ℕ) (at : ℕ) → nat_le n 9223372036854775807 ≡ true → n < 2 ^ 64 → Ends rest → (end : ℕ) × Seen (signed_decimal (pos n)) rest at (token (kind.Number (pos n)) at end ∷ [])
+pub number_seen : (n : ℕ) (rest : List ℕ) (at : ℕ) → nat_le n 9223372036854775807 ≡ true → n < 2 ^ 64 → Ends rest →
+    (end : ℕ) × Seen (signed_decimal (pos n)) rest at (token (kind.Number (pos n)) at end ∷ [])
 number_seen n rest at fits small ends =
     let m = numeral n small in
     let whole = m.first ∷ m.others in
@@ -179,9 +205,14 @@ number_seen n rest at fits small ends =
     let known : scan_number whole ≡ Found (kind.Number (pos n)) (length whole) = rw (led, value, fits) refl in
     let digit : is_digit m.first ≡ true = m.passes.0 in
     let letter : is_letter m.first ≡ false = digit_letter m.first digit in
-    let found : scan (m.first ∷ (m.others ++ rest)) ≡ Found (kind.Number (pos n)) (length whole) = if_false (is_letter m.first) _ _ letter ∙ if_true (is_digit m.first) (scan_number (take (run_length is_digit (whole ++ rest)) (whole ++ rest))) _ digit ∙ ap scan_number taken ∙ known in
+    let found : scan (m.first ∷ (m.others ++ rest)) ≡ Found (kind.Number (pos n)) (length whole) = if_false (is_letter m.first) _ _ letter
+    ∙ if_true (is_digit m.first) (scan_number (take (run_length is_digit (whole ++ rest)) (whole ++ rest))) _ digit ∙ ap scan_number taken ∙ known in
     let P : List ℕ → Type 0 = λ l. (end : ℕ) × Seen l rest at (token (kind.Number (pos n)) at end ∷ []) in
-    subst P (sym m.is) (at + length whole, front_seen m.first m.others rest at (kind.Number (pos n)) (digit_blank m.first digit) (digit_comment m.first digit) found)
+    subst P (sym m.is) (
+      at + length whole,
+      front_seen m.first m.others rest at (kind.Number (pos n)) (digit_blank m.first digit) (digit_comment m.first digit)
+          found,
+    )
 
 -- ---- texts
 
@@ -194,7 +225,8 @@ TextBytes [] = Unit {0}
 TextBytes (c ∷ cs) = TextByte c × TextBytes cs
 
 -- a text in its quotes
-pub text_front : (content w rest : List ℕ) (at : ℕ) → text_from false (w ++ rest) ≡ Some (content, length w) → is_short_text content ≡ true → (end : ℕ) × Seen (34 ∷ w) rest at (token (kind.Text content) at end ∷ [])
+pub text_front : (content w rest : List ℕ) (at : ℕ) → text_from false (w ++ rest) ≡ Some (content, length w) → is_short_text content ≡ true →
+    (end : ℕ) × Seen (34 ∷ w) rest at (token (kind.Text content) at end ∷ [])
 text_front content w rest at told short =
     let size : length w + 1 ≡ length (34 ∷ w) = omega arith in
     let found : scan (34 ∷ (w ++ rest)) ≡ Found (kind.Text content) (length (34 ∷ w)) = ap text_scan told ∙ rw short (ap (Found (kind.Text content)) size) in

@@ -6,7 +6,11 @@ use Rattle.sheet_syntax_trees.specs.declared.sign.Sign.TheVariants as sign
 use Rattle.sheet_syntax_trees.specs.Signs.{sign_rank, same_sign}
 
 abbrev signs : List Sign
-signs = sign.Other ∷ sign.Name ∷ sign.Number ∷ sign.Text ∷ sign.Root ∷ sign.Dot ∷ sign.Comma ∷ sign.Open ∷ sign.Close ∷ sign.OpenBrace ∷ sign.CloseBrace ∷ sign.Colon ∷ sign.Bar ∷ sign.Equals ∷ sign.NotEquals ∷ sign.Less ∷ sign.AtMost ∷ sign.Greater ∷ sign.AtLeast ∷ sign.Plus ∷ sign.Minus ∷ sign.Times ∷ sign.Divide ∷ sign.Remainder ∷ sign.Join ∷ sign.All ∷ sign.And ∷ sign.Any ∷ sign.Caller ∷ sign.Count ∷ sign.Else ∷ sign.Except ∷ sign.False ∷ sign.If ∷ sign.In ∷ sign.Intersect ∷ sign.Max ∷ sign.Min ∷ sign.Not ∷ sign.Only ∷ sign.Operator ∷ sign.Or ∷ sign.Sum ∷ sign.Then ∷ sign.This ∷ sign.True ∷ sign.Union ∷ sign.Up ∷ []
+signs = sign.Other ∷ sign.Name ∷ sign.Number ∷ sign.Text ∷ sign.Root ∷ sign.Dot ∷ sign.Comma ∷ sign.Open ∷ sign.Close ∷ sign.OpenBrace ∷ sign.CloseBrace ∷
+    sign.Colon ∷ sign.Bar ∷ sign.Equals ∷ sign.NotEquals ∷ sign.Less ∷ sign.AtMost ∷ sign.Greater ∷ sign.AtLeast ∷ sign.Plus ∷ sign.Minus ∷ sign.Times ∷
+    sign.Divide ∷ sign.Remainder ∷ sign.Join ∷ sign.All ∷ sign.And ∷ sign.Any ∷ sign.Caller ∷ sign.Count ∷ sign.Else ∷ sign.Except ∷ sign.False ∷ sign.If ∷
+    sign.In ∷ sign.Intersect ∷ sign.Max ∷ sign.Min ∷ sign.Not ∷ sign.Only ∷ sign.Operator ∷ sign.Or ∷ sign.Sum ∷ sign.Then ∷ sign.This ∷ sign.True ∷ sign.Union
+    ∷ sign.Up ∷ []
 
 abbrev numbered : ℕ → Sign
 numbered n = get_or signs n sign.Other

@@ -54,6 +54,7 @@ abbrev pub prefixing : Prefix → Nonterminal
 prefixing prefix.Minus = unary
 prefixing prefix.Not = negation
 
+-- what stands behind all prefixes of that kind
 abbrev pub unprefixed : Prefix → Nonterminal
 unprefixed prefix.Minus = postfix
 unprefixed prefix.Not = chain level.Comparison
@@ -70,6 +71,7 @@ pub record Parts : Type 0 where
   pub depth : ℕ
   pub nest : ℕ
 
+-- a tree with its depth and its greatest count of open brackets
 abbrev pub form : Tree → ℕ → ℕ → Form
 form t depth nest = record { tree = t; depth = depth; nest = nest }
 
@@ -85,6 +87,7 @@ function_of sign.Min = Some function.Min
 function_of sign.Max = Some function.Max
 function_of _ = None
 
+-- what a word that begins a test of a set stands for
 abbrev pub quantifier_of : Sign → Option Quantifier
 quantifier_of sign.Any = Some quantifier.Any
 quantifier_of sign.All = Some quantifier.All

@@ -6,6 +6,7 @@ use Rattle.sheet_syntax_trees.specs.declared.token.SyntaxRefusal.TheVariants.{Ba
 use Rattle.sheet_syntax_trees.specs.TokenList.{TokenList}
 use Rattle.sheet_syntax_trees.specs.Tokens.{tokens_from, with_tokens, line_after}
 
+-- the tokens of a list with its length of text
 abbrev pub list_of : TokenList → List Token
 list_of t = t.list
 

@@ -42,10 +42,12 @@ repeats level.Sets = true
 repeats level.Sums = true
 repeats level.Products = true
 
+-- the sign that a prefix is written by
 abbrev pub prefix_sign : Prefix → Sign
 prefix_sign prefix.Minus = sign.Minus
 prefix_sign prefix.Not = sign.Not
 
+-- a formula of that line behind a prefix
 abbrev pub prefixed : Prefix → ℕ → Tree → Tree
 prefixed prefix.Minus line e = tree.Negate line e
 prefixed prefix.Not line e = tree.Not line e

@@ -20,10 +20,12 @@ escape c = if c == 34 then codes "\\\"" else (if c == 92 then codes "\\\\" else 
 abbrev pub quoted : List ℕ → List ℕ
 quoted content = codes "\"" ++ flat_map escape content ++ codes "\""
 
+-- how a truth value is printed
 abbrev pub truth_text : Bool → List ℕ
 truth_text true = codes "true"
 truth_text false = codes "false"
 
+-- how an operator is printed
 abbrev pub operator_text : Operator → List ℕ
 operator_text operator.Or = codes "or"
 operator_text operator.And = codes "and"
@@ -44,19 +46,23 @@ operator_text operator.Times = codes "*"
 operator_text operator.Divide = codes "/"
 operator_text operator.Remainder = codes "%"
 
+-- how a function of one set is printed
 abbrev pub function_text : Function → List ℕ
 function_text function.Count = codes "count"
 function_text function.Only = codes "only"
 function_text function.Min = codes "min"
 function_text function.Max = codes "max"
 
+-- how a test of a set is printed
 abbrev pub quantifier_text : Quantifier → List ℕ
 quantifier_text quantifier.Any = codes "any"
 quantifier_text quantifier.All = codes "all"
 
+-- a text in parentheses
 abbrev pub in_parentheses : List ℕ → List ℕ
 in_parentheses text = codes "(" ++ text ++ codes ")"
 
+-- a text in braces
 abbrev pub in_braces : List ℕ → List ℕ
 in_braces text = codes "{" ++ text ++ codes "}"
 
@@ -65,6 +71,7 @@ abbrev pub opening_text : Gathering → List ℕ
 opening_text gathering.Union = codes "{"
 opening_text gathering.Sum = codes "sum("
 
+-- the bracket that closes a comprehension or a sum
 abbrev pub closing_text : Gathering → List ℕ
 closing_text gathering.Union = codes "}"
 closing_text gathering.Sum = codes ")"

@@ -25,9 +25,11 @@ use Rattle.sheet_syntax_trees.specs.declared.tree.Formed.{Formed}
 use Rattle.sheet_syntax_trees.specs.Signs.{sign_of, same_sign}
 use Rattle.sheet_syntax_trees.specs.Operators.{operator_among, repeats, prefix_sign, prefixed}
 
+-- what is read, or why it is refused
 abbrev pub Answer : Type 0 → Type 0
 Answer A = Result A SyntaxRefusal
 
+-- reads a formula at the front of tokens, and gives the tokens behind it
 abbrev pub Reader : Type 0
 Reader = List Token → Answer (Formed × List Token)
 
@@ -50,10 +52,12 @@ abbrev pub offset : ℕ → List Token → ℕ
 offset end [] = end
 offset end (t ∷ ts) = t.start
 
+-- the line of the first token
 abbrev pub line_of : List Token → ℕ
 line_of [] = 0
 line_of (t ∷ ts) = t.line
 
+-- the sign of the first token
 abbrev pub sign_at : List Token → Sign
 sign_at [] = sign.Other
 sign_at (t ∷ ts) = sign_of t.kind
@@ -63,13 +67,16 @@ abbrev pub after : Sign → List Token → Option (List Token)
 after s [] = None
 after s (t ∷ ts) = if same_sign (sign_of t.kind) s then Some ts else None
 
+-- what was found, or the refusal of the token at that offset
 abbrev pub or_expected : {A : Type 0} → ℕ → Option A → Answer A
 or_expected at (Some x) = Ok x
 or_expected at None = Err (Expected at)
 
+-- the tokens behind a first one of that sign; else that one is refused
 abbrev pub expect : ℕ → Sign → List Token → Answer (List Token)
 expect end s ts = or_expected (offset end ts) (after s ts)
 
+-- the name that a token is
 abbrev pub name_of : TokenKind → Option (List ℕ)
 name_of (kind.Name name) = Some name
 name_of (kind.Reserved word) = None
@@ -77,10 +84,12 @@ name_of (kind.Number n) = None
 name_of (kind.Text text) = None
 name_of (kind.Symbol symbol) = None
 
+-- what is read, with the tokens behind it
 abbrev pub with_rest : {A : Type 0} → List Token → Answer A → Answer (A × List Token)
 with_rest rest (Ok x) = Ok (x, rest)
 with_rest rest (Err e) = Err e
 
+-- the name at the front, and the tokens behind it
 abbrev pub name_at : ℕ → List Token → Answer (List ℕ × List Token)
 name_at end [] = Err (Expected end)
 name_at end (t ∷ ts) = with_rest ts (or_expected t.start (name_of t.kind))
@@ -103,6 +112,7 @@ leaf_of line sign.Caller = Some (tree.Caller line)
 leaf_of line sign.Operator = Some (tree.Operator line)
 leaf_of line _ = None
 
+-- the formula that a token is by itself
 abbrev pub leaf : ℕ → TokenKind → Option Tree
 leaf line (kind.Name name) = Some (tree.Name line name)
 leaf line (kind.Reserved word) = leaf_of line (sign_of (kind.Reserved word))
@@ -114,15 +124,19 @@ leaf line (kind.Symbol symbol) = leaf_of line (sign_of (kind.Symbol symbol))
 abbrev pub gather : ℕ → Token → Gathering → Formed → List ℕ → Formed → Answer Formed
 gather limit t g f name source = made limit t.start (tree.Gather t.line g f.tree name source.tree) (max f.depth source.depth)
 
+-- a comprehension or a sum with a condition, which begins at a token
 abbrev pub gather_where : ℕ → Token → Gathering → Formed → List ℕ → Formed → Formed → Answer Formed
 gather_where limit t g f name source p = made limit t.start (tree.GatherWhere t.line g f.tree name source.tree p.tree) (max f.depth (max source.depth p.depth))
 
+-- a test of a set, which begins at a token
 abbrev pub test : ℕ → Token → Quantifier → List ℕ → Formed → Formed → Answer Formed
 test limit t q name source p = made limit t.start (tree.Test t.line q name source.tree p.tree) (max source.depth p.depth)
 
+-- a function of a set, which begins at a token
 abbrev pub call : ℕ → Token → Function → Formed → Answer Formed
 call limit t f x = made limit t.start (tree.Call t.line f x.tree) x.depth
 
+-- an if, which begins at a token
 abbrev pub choice : ℕ → Token → Formed → Formed → Formed → Answer Formed
 choice limit t c x y = made limit t.start (tree.If t.line c.tree x.tree y.tree) (max c.depth (max x.depth y.depth))
 
@@ -132,12 +146,14 @@ closed s g close t f name source ts =
     expect s.end close ts >>= (λ rest.
     with_rest rest (gather s.limit t g f name source))
 
+-- the condition of a comprehension or a sum, and the bracket behind it
 unfoldable pub closed_where : Setting → Gathering → Sign → Token → Formed → List ℕ → Formed → List Token → Answer (Formed × List Token)
 closed_where s g close t f name source ts =
     s.inner ts >>= (λ p.
     expect s.end close p.1 >>= (λ rest.
     with_rest rest (gather_where s.limit t g f name source p.0)))
 
+-- the end of a comprehension or a sum: with a condition where a bar stood
 abbrev pub conditioned : Setting → Gathering → Sign → Token → Formed → List ℕ → Formed → List Token → Option (List Token) → Answer (Formed × List Token)
 conditioned s g close t f name source ts None = closed s g close t f name source ts
 conditioned s g close t f name source ts (Some rest) = closed_where s g close t f name source rest
@@ -151,12 +167,14 @@ gathered s g close t f ts =
     s.inner b >>= (λ source.
     conditioned s g close t f name.0 source.0 source.1 (after sign.Bar source.1)))))
 
+-- what stands behind the word that begins a sum
 unfoldable pub summed : Setting → Token → List Token → Answer (Formed × List Token)
 summed s t ts =
     opened s sign.Open ts >>= (λ a.
     s.inner a >>= (λ f.
     gathered s gathering.Sum sign.Close t f.0 f.1))
 
+-- what stands behind the word that begins a test of a set
 unfoldable pub tested : Setting → Quantifier → Token → List Token → Answer (Formed × List Token)
 tested s q t ts =
     opened s sign.Open ts >>= (λ a.
@@ -168,6 +186,7 @@ tested s q t ts =
     expect s.end sign.Close p.1 >>= (λ rest.
     with_rest rest (test s.limit t q name.0 source.0 p.0))))))))
 
+-- what stands behind the word that begins a function
 unfoldable pub called : Setting → Function → Token → List Token → Answer (Formed × List Token)
 called s f t ts =
     opened s sign.Open ts >>= (λ a.
@@ -201,6 +220,7 @@ braced s t ts None = s.inner ts >>= (λ f. behind_part s t f.0 f.1 (sign_at f.1)
 unfoldable pub parenthesised : Setting → List Token → Answer (Formed × List Token)
 parenthesised s ts = s.inner ts >>= (λ x. expect s.end sign.Close x.1 >>= (λ rest. Ok (x.0, rest)))
 
+-- a formula in brackets, or behind a word that begins one, which begins with a token of that sign
 unfoldable pub bracketed : Setting → Sign → Token → List Token → Answer (Formed × List Token)
 bracketed s sign.Open t ts = if s.room == 0 then Err (TooNested t.start) else parenthesised s ts
 bracketed s sign.OpenBrace t ts = if s.room == 0 then Err (TooNested t.start) else braced s t ts (after sign.CloseBrace ts)
@@ -213,10 +233,12 @@ bracketed s sign.Any t ts = tested s quantifier.Any t ts
 bracketed s sign.All t ts = tested s quantifier.All t ts
 bracketed s _ t ts = Err (Expected t.start)
 
+-- the formula that a token is by itself, or the one in brackets that it begins
 abbrev pub leaf_or : Setting → Option Tree → Token → List Token → Answer (Formed × List Token)
 leaf_or s (Some form) t ts = Ok (record { tree = form; depth = 1 }, ts)
 leaf_or s None t ts = bracketed s (sign_of t.kind) t ts
 
+-- a formula of one token or in brackets
 unfoldable pub atom : Setting → Reader
 atom s [] = Err (Expected s.end)
 atom s (t ∷ ts) = leaf_or s (leaf t.line t.kind) t ts
@@ -238,6 +260,7 @@ steps limit end at line f (d ∷ t ∷ ts) =
     then or_expected t.start (step_of line f.tree t.kind) >>= (λ form. made limit at form f.depth >>= (λ g. steps limit end at line g ts))
     else Ok (f, d ∷ t ∷ ts)
 
+-- a formula with the steps behind it
 unfoldable pub postfix : Setting → Reader
 postfix s ts = atom s ts >>= (λ x. steps s.limit s.end (offset s.end ts) (line_of ts) x.0 x.1)
 
@@ -246,6 +269,7 @@ unfoldable pub prefixes : Prefix → List Token → List Token
 prefixes p [] = []
 prefixes p (t ∷ ts) = if same_sign (sign_of t.kind) (prefix_sign p) then t ∷ prefixes p ts else []
 
+-- the tokens behind the prefixes of a kind
 unfoldable pub behind_prefixes : Prefix → List Token → List Token
 behind_prefixes p [] = []
 behind_prefixes p (t ∷ ts) = if same_sign (sign_of t.kind) (prefix_sign p) then behind_prefixes p ts else t ∷ ts
@@ -255,29 +279,35 @@ unfoldable pub under_prefixes : ℕ → Prefix → List Token → Answer Formed 
 under_prefixes limit p [] r = r
 under_prefixes limit p (t ∷ ts) r = under_prefixes limit p ts r >>= (λ f. made limit t.start (prefixed p t.line f.tree) f.depth)
 
+-- a formula behind prefixes of a kind
 unfoldable pub with_prefixes : Setting → Prefix → Reader → Reader
 with_prefixes s p operand ts = operand (behind_prefixes p ts) >>= (λ x. with_rest x.1 (under_prefixes s.limit p (prefixes p ts) (Ok x.0)))
 
--- What follows an operand of a level, at most so many times: operators of that level with further operands.
+-- two operands joined by an operator: a form that begins there
 abbrev pub operation : ℕ → ℕ → ℕ → Operator → Formed → Formed → Answer Formed
 operation limit at line op f g = made limit at (tree.Binary line op f.tree g.tree) (max f.depth g.depth)
 
+-- the operand behind an operator, joined to the formula before it
 abbrev pub operand_behind : Setting → Reader → ℕ → ℕ → Operator → Formed → List Token → Answer (Formed × List Token)
 operand_behind s operand at line op f ts = operand ts >>= (λ x. with_rest x.1 (operation s.limit at line op f x.0))
 
+-- whether more operators may follow
 abbrev pub go_on : Bool → Answer (Formed × List Token) → (Formed → List Token → Answer (Formed × List Token)) → Answer (Formed × List Token)
 go_on true r more = r >>= (λ x. more x.0 x.1)
 go_on false r more = r
 
+-- behind an operand, at a token that is this operator of the level or none
 abbrev pub more_by : Setting → Level → Reader → ℕ → ℕ → Formed → Token → List Token → Option Operator → (Formed → List Token → Answer (Formed × List Token)) → Answer (Formed × List Token)
 more_by s l operand at line f t ts None more = Ok (f, t ∷ ts)
 more_by s l operand at line f t ts (Some op) more = go_on (repeats l) (operand_behind s operand at line op f ts) more
 
+-- what follows an operand of a level, at most so many times: operators of that level with further operands
 unfoldable pub more : Setting → Level → Reader → ℕ → ℕ → ℕ → Formed → List Token → Answer (Formed × List Token)
 more s l operand zero at line f ts = Ok (f, ts)
 more s l operand (suc n) at line f [] = Ok (f, [])
 more s l operand (suc n) at line f (t ∷ ts) = more_by s l operand at line f t ts (operator_among l (sign_of t.kind)) (λ g rest. more s l operand n at line g rest)
 
+-- operands of a level with its operators between them
 unfoldable pub chain : Setting → Level → Reader → Reader
 chain s l operand ts = operand ts >>= (λ x. more s l operand (length x.1) (offset s.end ts) (line_of ts) x.0 x.1)
 
@@ -285,27 +315,35 @@ chain s l operand ts = operand ts >>= (λ x. more s l operand (length x.1) (offs
 unfoldable pub unary : Setting → Reader
 unary s = with_prefixes s prefix.Minus (postfix s)
 
+-- formulas joined by *, / and %
 unfoldable pub products : Setting → Reader
 products s = chain s level.Products (unary s)
 
+-- products joined by +, - and &
 unfoldable pub sums : Setting → Reader
 sums s = chain s level.Sums (products s)
 
+-- sums joined by union, intersect and except
 unfoldable pub sets : Setting → Reader
 sets s = chain s level.Sets (sums s)
 
+-- sets, at most two, with a comparison between them
 unfoldable pub comparison : Setting → Reader
 comparison s = chain s level.Comparison (sets s)
 
+-- a comparison behind any number of nots
 unfoldable pub negation : Setting → Reader
 negation s = with_prefixes s prefix.Not (comparison s)
 
+-- negations joined by and
 unfoldable pub conjunction : Setting → Reader
 conjunction s = chain s level.And (negation s)
 
+-- conjunctions joined by or
 unfoldable pub disjunction : Setting → Reader
 disjunction s = chain s level.Or (conjunction s)
 
+-- how the operands of a level are read
 abbrev pub operand_at : Setting → Level → Reader
 operand_at s level.Products = unary s
 operand_at s level.Sums = products s
@@ -314,6 +352,7 @@ operand_at s level.Comparison = sets s
 operand_at s level.And = negation s
 operand_at s level.Or = conjunction s
 
+-- how a level is read
 abbrev pub chain_at : Setting → Level → Reader
 chain_at s level.Products = products s
 chain_at s level.Sums = sums s
@@ -332,6 +371,7 @@ chosen s t ts =
     s.nested b >>= (λ y.
     with_rest y.1 (choice s.limit t c.0 x.0 y.0))))))
 
+-- an if, or a disjunction
 unfoldable pub expression : Setting → Reader
 expression s [] = disjunction s []
 expression s (t ∷ ts) = if same_sign (sign_of t.kind) sign.If then chosen s t ts else disjunction s (t ∷ ts)
@@ -341,6 +381,7 @@ unfoldable pub within : ℕ → ℕ → ℕ → ℕ → Reader
 within limit end zero room ts = Err (Expected (offset end ts))
 within limit end (suc turns) room ts = expression (record { limit = limit; end = end; room = room; inner = within limit end turns (room - 1); nested = within limit end turns room }) ts
 
+-- how formulas are read with so many turns and open brackets left
 abbrev pub setting : ℕ → ℕ → ℕ → ℕ → Setting
 setting limit end turns room = record { limit = limit; end = end; room = room; inner = within limit end turns (room - 1); nested = within limit end turns room }
 
@@ -353,5 +394,6 @@ abbrev pub nothing_behind : ℕ → Formed × List Token → Answer Tree
 nothing_behind end (f, []) = Ok f.tree
 nothing_behind end (f, t ∷ ts) = Err (Expected t.start)
 
+-- the tree of the formula that all the tokens are
 abbrev pub whole_formula : ℕ → List Token → Answer Tree
 whole_formula end ts = formula_at 32 32 end ts >>= nothing_behind end

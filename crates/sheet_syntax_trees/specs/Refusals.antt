@@ -35,6 +35,7 @@ opening sign.Open = 1
 opening sign.OpenBrace = 1
 opening _ = 0
 
+-- how many brackets a sign closes
 abbrev pub closing : Sign → ℕ
 closing sign.Close = 1
 closing sign.CloseBrace = 1
@@ -45,6 +46,7 @@ abbrev pub opens : List Token → ℕ
 opens [] = 0
 opens (t ∷ ts) = opening (sign_of t.kind) + opens ts
 
+-- how many brackets tokens close
 abbrev pub closes : List Token → ℕ
 closes [] = 0
 closes (t ∷ ts) = closing (sign_of t.kind) + closes ts

@@ -5,6 +5,7 @@ use Rattle.sheet_syntax_trees.specs.declared.token.TokenKind.TheVariants as kind
 use Rattle.sheet_syntax_trees.specs.declared.sign.Sign.{Sign}
 use Rattle.sheet_syntax_trees.specs.declared.sign.Sign.TheVariants as sign
 
+-- the signs of symbols
 abbrev pub symbols : List (List ℕ × Sign)
 symbols =
     (codes "$", sign.Root) ∷ (codes ".", sign.Dot) ∷ (codes ",", sign.Comma) ∷ (codes "(", sign.Open) ∷ (codes ")", sign.Close)
@@ -13,6 +14,7 @@ symbols =
     ∷ (codes "+", sign.Plus) ∷ (codes "-", sign.Minus) ∷ (codes "*", sign.Times) ∷ (codes "/", sign.Divide) ∷ (codes "%", sign.Remainder)
     ∷ (codes "&", sign.Join) ∷ []
 
+-- the signs of reserved words
 abbrev pub words : List (List ℕ × Sign)
 words =
     (codes "all", sign.All) ∷ (codes "and", sign.And) ∷ (codes "any", sign.Any) ∷ (codes "caller", sign.Caller) ∷ (codes "count", sign.Count)
@@ -26,6 +28,7 @@ abbrev pub sign_among : List (List ℕ × Sign) → List ℕ → Sign
 sign_among [] word = sign.Other
 sign_among (row ∷ rows) word = if bytes_eq row.0 word then row.1 else sign_among rows word
 
+-- the sign of a token
 abbrev pub sign_of : TokenKind → Sign
 sign_of (kind.Name name) = sign.Name
 sign_of (kind.Reserved word) = sign_among words word
@@ -84,5 +87,6 @@ sign_rank sign.True = 45
 sign_rank sign.Union = 46
 sign_rank sign.Up = 47
 
+-- whether two signs are the same
 abbrev pub same_sign : Sign → Sign → Bool
 same_sign a b = sign_rank a == sign_rank b

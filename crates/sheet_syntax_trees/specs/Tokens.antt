@@ -12,6 +12,7 @@ use Rattle.sheet_syntax_trees.specs.declared.scan.Scan.TheVariants.{Found, Bad, 
 use Rattle.sheet_syntax_trees.specs.Bytes.{is_letter, is_digit, is_blank, is_plain, is_in_word, is_in_comment, run_length, symbol_length}
 use Rattle.sheet_syntax_trees.specs.Words.{reserved_words}
 
+-- whether a word is reserved
 unfoldable pub is_reserved : List ℕ → Bool
 is_reserved word = list_any (λ r. bytes_eq r word) reserved_words
 
@@ -20,6 +21,7 @@ abbrev pub digits_value : ℕ → List ℕ → ℕ
 digits_value value [] = value
 digits_value value (d ∷ ds) = digits_value (value * 10 + (d - 48)) ds
 
+-- whether several digits begin with a zero
 abbrev pub has_leading_zero : List ℕ → Bool
 has_leading_zero [] = false
 has_leading_zero (d ∷ []) = false
@@ -29,6 +31,7 @@ has_leading_zero (d ∷ e ∷ ds) = d == 48
 abbrev pub word_kind : List ℕ → TokenKind
 word_kind word = if is_reserved word then Reserved word else Name word
 
+-- a word of at most 63 bytes
 abbrev pub scan_word : List ℕ → Scan
 scan_word word = if nat_le (length word) 63 then Found (word_kind word) (length word) else Bad
 
@@ -65,6 +68,7 @@ abbrev pub text_scan : Option (List ℕ × ℕ) → Scan
 text_scan None = Bad
 text_scan (Some p) = if is_short_text p.0 then Found (Text p.0) (p.1 + 1) else Bad
 
+-- the symbol of that length, where there is one
 abbrev pub symbol_scan : ℕ → List ℕ → Scan
 symbol_scan count rest = if count == 0 then Bad else Found (Symbol (take count rest)) count
 
@@ -88,6 +92,7 @@ scanned at line (Found kind len) behind = with_tokens (record { kind = kind; sta
 scanned at line Bad behind = Err (BadToken at)
 scanned at line TooWide behind = Err (NumberTooWide at)
 
+-- the line behind a byte
 abbrev pub line_after : ℕ → ℕ → ℕ
 line_after c line = if c == 10 then line + 1 else line
 

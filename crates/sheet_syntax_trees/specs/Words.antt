@@ -1,6 +1,7 @@
 -- The reserved words.
 use Rattle.std.specs.Prelude.{ℕ, List, [], ◌∷◌, codes}
 
+-- the words that are no names
 abbrev pub reserved_words : List (List ℕ)
 reserved_words =
     codes "add" ∷ codes "all" ∷ codes "allow" ∷ codes "and" ∷ codes "any" ∷ codes "by" ∷ codes "caller" ∷ codes "callers"

@@ -11,7 +11,7 @@ use crate::token::{SyntaxRefusal, Token, Tokens};
 use std::alloc::Global;
 
 // How many bytes at the front are a blank, a comment or a token, which is put at the end of the list.
-fn turn(
+fn lex_front(
     alloc: Global,
     list: &mut Vec<Token>,
     rest: &[u8],
@@ -63,7 +63,7 @@ pub fn lex(alloc: Global, text: &[u8]) -> Result<Tokens, SyntaxRefusal>
     let mut line = 1;
     while let Some((first, _)) = rest.split_first() {
         let ends_line = *first == b'\n';
-        let count = turn(alloc, &mut list, rest, at, line)?;
+        let count = lex_front(alloc, &mut list, rest, at, line)?;
         let (_, behind) = rest.split_at(count);
         rest = behind;
         at += count;

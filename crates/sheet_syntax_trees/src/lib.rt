@@ -21,6 +21,3 @@ pub use operators::{Function, Gathering, Level, Operator, Prefix, Quantifier};
 pub use sign::{Sign, sign_of};
 pub use token::{SyntaxRefusal, Token, TokenKind, Tokens};
 pub use tree::{Formed, Tree};
-
-#[cfg(test)]
-mod tests;
