@@ -1,0 +1,9 @@
+pub mod Paths
+pub mod Fields
+pub mod Heads
+pub mod Lines
+pub mod Stream
+pub mod Steps
+pub mod Searching
+pub mod Knowing
+pub mod Responses
