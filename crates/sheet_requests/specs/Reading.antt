@@ -1,7 +1,9 @@
 -- What the bytes of a request say, by the route that they came on.
-use Rattle.std.specs.Prelude.{◌≡◌, ℕ, ℤ, ◌==◌, ◌&&◌, nat_lt, nat_le, not, List, [], ◌∷◌, length, codes, Option, Some, None, Bool, true, false, if◌then◌else◌, Result, Ok, Err, IsUtf8, count_by, bytes_eq, is_some}
+use Rattle.std.specs.Prelude.{◌≡◌, ℕ, ℤ, ◌==◌, ◌&&◌, nat_lt, nat_le, not, List, [], ◌∷◌, length, codes, Option, Some, None, Bool, true, false}
+use Rattle.std.specs.Prelude.{if◌then◌else◌, Result, Ok, Err, IsUtf8, count_by, bytes_eq, is_some}
 use Rattle.std.specs.List.{list_all, list_any}
-use Rattle.serde_json.specs.Data.{Data, Num, unsigned, negative, float, Items, item, no_items, Members, member, no_members, object, null, boolean, number, string, array}
+use Rattle.serde_json.specs.Data.{Data, Num, unsigned, negative, float, Items, item, no_items, Members, member, no_members, object, null, boolean}
+use Rattle.serde_json.specs.Data.{number, string, array}
 use Rattle.serde_json.specs.Read.{read}
 use Rattle.serde_json.specs.Find.{get, get_member, as_i64}
 use Rattle.sheet_values.specs.declared.value.Value.{Value}
