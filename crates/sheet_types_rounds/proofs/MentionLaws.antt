@@ -39,7 +39,8 @@ pub mentions-Call : (line : ℕ) (f : Function) (e : Tree) (ns : List (List ℕ)
 unfolding hidden hidden-the_row-Tree-0
 mentions-Call line f e ns = refl
 
-pub mentions-Gather : (line : ℕ) (g : Gathering) (f : Tree) (x : List ℕ) (s : Tree) (ns : List (List ℕ)) → mentions (tree.Gather line g f x s) ns ≡ (mentions s ns || mentions f ns)
+pub mentions-Gather : (line : ℕ) (g : Gathering) (f : Tree) (x : List ℕ) (s : Tree) (ns : List (List ℕ))
+    → mentions (tree.Gather line g f x s) ns ≡ (mentions s ns || mentions f ns)
 unfolding hidden hidden-the_row-Tree-0
 mentions-Gather line g f x s ns = refl
 
@@ -48,7 +49,8 @@ pub mentions-GatherWhere : (line : ℕ) (g : Gathering) (f : Tree) (x : List ℕ
 unfolding hidden hidden-the_row-Tree-0
 mentions-GatherWhere line g f x s p ns = refl
 
-pub mentions-Test : (line : ℕ) (q : Quantifier) (x : List ℕ) (s p : Tree) (ns : List (List ℕ)) → mentions (tree.Test line q x s p) ns ≡ (mentions s ns || mentions p ns)
+pub mentions-Test : (line : ℕ) (q : Quantifier) (x : List ℕ) (s p : Tree) (ns : List (List ℕ))
+    → mentions (tree.Test line q x s p) ns ≡ (mentions s ns || mentions p ns)
 unfolding hidden hidden-the_row-Tree-0
 mentions-Test line q x s p ns = refl
 

@@ -1,5 +1,6 @@
 -- Which formula columns of no known type have none after the next round either.
-use Rattle.std.proofs.Common.{arith, ◌≡◌, refl, sym, ap, ◌∙◌, ℕ, ◌+◌, zero, suc, Bool, true, false, if◌then◌else◌, ◌<◌, ◌≤◌, length, inl, inr, List, [], ◌∷◌, ◌++◌, Option, Some, None}
+use Rattle.std.proofs.Common.{arith, ◌≡◌, refl, sym, ap, ◌∙◌, ℕ, ◌+◌, zero, suc, Bool, true, false, if◌then◌else◌, ◌<◌, ◌≤◌, length, inl, inr, List}
+use Rattle.std.proofs.Common.{[], ◌∷◌, ◌++◌, Option, Some, None}
 use Rattle.std.specs.Prelude.{◌||◌, ◌⊎◌, bytes_eq, slice_index_or}
 use Rattle.std.proofs.lemmas.Bool.{both_ways}
 use Rattle.std.proofs.lemmas.Slice.Eq.{bytes_eq-Decides}
@@ -48,16 +49,19 @@ steady_from nodes old new ns c [] agree is = tt
 steady_from nodes old new ns c (f ∷ fs) agree is =
     let here : c + 0 ≡ c = omega (arith) in (
       steady_one nodes old new ns c f agree (sym (ap (λ d. slice_index_or new d kind.Unknown) here) ∙ is 0),
-      steady_from nodes old new ns (c + 1) fs agree (λ j. let there : c + 1 + j ≡ c + suc j = omega (arith) in ap (λ d. slice_index_or new d kind.Unknown) there ∙ is (suc j)),
+      steady_from nodes old new ns (c + 1) fs agree (λ j. let there : c + 1 + j
+          ≡ c + suc j = omega (arith) in ap (λ d. slice_index_or new d kind.Unknown) there ∙ is (suc j)),
     )
 
 -- after a round, only what mentions a column whose type it found may find one in the next
-pub steady_after : (nodes : List Node) (old new : List Kind) (all : Bool) (ns : List (List ℕ)) (fs : List (Option Tree)) → all ≡ false → AgreeBut ns nodes old new → new ≡ round nodes fs old → AreSteady nodes new all ns 0 fs
+pub steady_after : (nodes : List Node) (old new : List Kind) (all : Bool) (ns : List (List ℕ)) (fs : List (Option Tree)) → all ≡ false
+    → AgreeBut ns nodes old new → new ≡ round nodes fs old → AreSteady nodes new all ns 0 fs
 steady_after nodes old new true ns fs some agree is = absurd cc
 steady_after nodes old new false ns fs some agree is =
-    steady_from nodes old new ns 0 fs agree (λ j. let same : 0 + j ≡ j = omega (arith) in ap (λ d. slice_index_or new d kind.Unknown) same ∙ ap (λ ks. slice_index_or ks j kind.Unknown) is)
+    steady_from nodes old new ns 0 fs agree (λ j. let same : 0 + j ≡ j = omega (arith) in ap (λ d. slice_index_or new d kind.Unknown) same
+    ∙ ap (λ ks. slice_index_or ks j kind.Unknown) is)
 
-below : (c n : ℕ) → c < n + 1 → (c < n) ⊎ (c ≡ n)
+pub below : (c n : ℕ) → c < n + 1 → (c < n) ⊎ (c ≡ n)
 below zero zero lt = inr refl
 below zero (suc n) lt = inl (omega (arith))
 below (suc c) zero lt = absurd (omega (arith, lt))
@@ -67,10 +71,10 @@ below (suc c) (suc n) lt = up (below c n (omega (arith, lt)))
     up (inl before) = inl (omega (arith, before))
     up (inr here) = inr (ap suc here)
 
-some_is : {A : Type 0} {x y : A} → Some x ≡ Some y → x ≡ y
+pub some_is : {A : Type 0} {x y : A} → Some x ≡ Some y → x ≡ y
 some_is same = cc
 
-counted : (nodes : List Node) (c : ℕ) (name : List ℕ) → name_of nodes c ≡ Some name → c < length nodes
+pub counted : (nodes : List Node) (c : ℕ) (name : List ℕ) → name_of nodes c ≡ Some name → c < length nodes
 counted [] c name got = absurd cc
 counted (n ∷ nodes) zero name got = omega (arith)
 counted (n ∷ nodes) (suc c) name got = omega (arith, counted nodes c name got)
@@ -80,7 +84,8 @@ neither true b all = absurd cc
 neither false b all = (refl, all)
 
 -- one column more, whose type is the same
-pub agree_same : (n : ℕ) (ns : List (List ℕ)) (nodes : List Node) (k l : List Kind) → AgreeBelow n ns nodes k l → slice_index_or k n kind.Unknown ≡ slice_index_or l n kind.Unknown → AgreeBelow (n + 1) ns nodes k l
+pub agree_same : (n : ℕ) (ns : List (List ℕ)) (nodes : List Node) (k l : List Kind) → AgreeBelow n ns nodes k l
+    → slice_index_or k n kind.Unknown ≡ slice_index_or l n kind.Unknown → AgreeBelow (n + 1) ns nodes k l
 agree_same n ns nodes k l agree same c name lt got other = by_place (below c n lt)
   where
     by_place : (c < n) ⊎ (c ≡ n) → slice_index_or k c kind.Unknown ≡ slice_index_or l c kind.Unknown
@@ -88,7 +93,8 @@ agree_same n ns nodes k l agree same c name lt got other = by_place (below c n l
     by_place (inr here) = ap (λ d. slice_index_or k d kind.Unknown) here ∙ same ∙ ap (λ d. slice_index_or l d kind.Unknown) (sym here)
 
 -- one column more, whose name is noted
-pub agree_noted : (n : ℕ) (ns : List (List ℕ)) (one : List ℕ) (nodes : List Node) (k l : List Kind) → AgreeBelow n ns nodes k l → name_of nodes n ≡ Some one → AgreeBelow (n + 1) (ns ++ one ∷ []) nodes k l
+pub agree_noted : (n : ℕ) (ns : List (List ℕ)) (one : List ℕ) (nodes : List Node) (k l : List Kind) → AgreeBelow n ns nodes k l → name_of nodes n ≡ Some one
+    → AgreeBelow (n + 1) (ns ++ one ∷ []) nodes k l
 agree_noted n ns one nodes k l agree is c name lt got other = by_place (below c n lt)
   where
     apart : (is_among ns name ≡ false) × (is_among (one ∷ []) name ≡ false)

@@ -2,8 +2,10 @@
 #![tactic(auto)]
 
 mod first;
+mod known;
 mod mentions;
 mod rounds;
+mod waiting;
 
 pub use first::{first_kinds, formula_in};
 pub use rounds::final_kinds;

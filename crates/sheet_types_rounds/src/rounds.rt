@@ -3,16 +3,20 @@ ghost use Rattle.std.specs.Prelude.{◌≡◌, ◌≤◌, ◌<◌, ◌+◌, ◌+
 ghost use Rattle.sheet_types_rounds.specs.Mentions.{is_touched, AgreeBelow, AgreeBut, IsSteady, AreSteady};
 ghost use Rattle.sheet_values.specs.declared.value.Kind.TheVariants as kind;
 ghost use Rattle.sheet_types_formulas.specs.Typing.{typed};
+ghost use Rattle.sheet_types_rounds.specs.Waiting.{HoldKnown};
 ghost use Rattle.sheet_types_rounds.specs.Rounds.{formulas_of, written_formulas, at_column, kind_told, next_kind as next_kind_of, next_kinds, round as round_of, final_kinds as final_kinds_of};
 
-use crate::first::{count_formulas, first_kinds, formula_in, is_same, is_unknown};
+use crate::first::{count_formulas, first_kinds, formula_in, is_same, is_unknown, kind_at};
+use crate::known::{KnownNames, known_names};
 use crate::mentions::mentions;
+use crate::waiting::waits;
 use sheet_columns::{Columns, Sequence};
 use sheet_define_data::{Declaration, Definition};
 use sheet_syntax_trees::Tree;
 use sheet_types_formulas::{Scope, TypeRefusal, Variable, type_formula};
 use sheet_values::{Kind, Name, NoMemory};
 use std::alloc::Global;
+use std::slice::from_ref;
 
 // The type of a formula of that column, under these types.
 fn kind_of_formula(
@@ -43,6 +47,27 @@ fn kind_of_formula(
     }
 }
 
+// The same, where no formula is typed that waits for a column of a name that isn't known.
+fn kind_unless_waiting(
+    alloc: Global,
+    columns: &Columns,
+    kinds: &[Kind],
+    known: &KnownNames,
+    column: u32,
+    tree: &Tree,
+) -> Result<Kind, NoMemory>
+    requires not_root { 0 < column }
+    requires counted { column < length columns.now }
+    requires known { HoldKnown known.now columns.now kinds.now }
+    ensures { IfOk result (λ k. k ≡ kind_told (typed tree.now (at_column columns.now kinds.now column))) }
+{
+    let this = Name::of(alloc, "this")?;
+    if waits(tree, false, known) && !mentions(tree, from_ref(&this)) {
+        return Ok(Kind::Unknown);
+    }
+    kind_of_formula(alloc, columns, kinds, column, tree)
+}
+
 // What the round before has changed: all types, or those of the columns of these names.
 #[derive(Drop)]
 struct Changed {
@@ -59,34 +84,26 @@ impl Changed {
     }
 }
 
-// The type of the column of that number, as far as it is known.
-fn kind_at(kinds: &[Kind], column: u32) -> Kind
-    ensures { result ≡ slice_index_or kinds.now column kind.Unknown }
-{
-    match kinds.get(column as usize) {
-        Some(kind) => *kind,
-        None => Kind::Unknown,
-    }
-}
-
 // The type of a column in the round behind these types. A formula that isn't touched still has none.
 fn next_kind(
     alloc: Global,
     columns: &Columns,
     kinds: &[Kind],
     changed: &Changed,
+    known: &KnownNames,
     column: u32,
     formula: Option<&Tree>,
 ) -> Result<Kind, NoMemory>
     requires not_root { 0 < column }
     requires counted { column < length columns.now }
     requires steady { IsSteady columns.now kinds.now changed.now.all changed.now.names.items column (option_map (λ tree. tree.now) formula) }
+    requires known { HoldKnown known.now columns.now kinds.now }
     ensures { IfOk result (λ k. k ≡ next_kind_of columns.now kinds.now column (option_map (λ tree. tree.now) formula.entry) (slice_index_or kinds.now column kind.Unknown)) }
 {
     let old = kind_at(kinds, column);
     match formula {
         Some(tree) if is_unknown(old) && changed.touches(tree) => {
-            kind_of_formula(alloc, columns, kinds, column, tree)
+            kind_unless_waiting(alloc, columns, kinds, known, column, tree)
         }
         _ => Ok(old),
     }
@@ -98,6 +115,7 @@ fn add_next(
     columns: &Columns,
     kinds: &[Kind],
     changed: &Changed,
+    known: &KnownNames,
     declaration: &Declaration,
     next: &mut Sequence<Kind>,
 ) -> Result<(), NoMemory>
@@ -105,6 +123,7 @@ fn add_next(
     requires room { length next.old + length (written_formulas (declaration.now ∷ [])) ≤ length columns.now }
     requires few { length columns.now ≤ 1000 }
     requires steady { AreSteady columns.now kinds.now changed.now.all changed.now.names.items (length next.old) (written_formulas (declaration.now ∷ [])) }
+    requires known { HoldKnown known.now columns.now kinds.now }
     ensures { OnOk result (next.new ≡ next.old ++ next_kinds columns.now kinds.now (length next.old) (written_formulas (declaration.now ∷ []))) }
 {
     let Declaration::Column(column) = declaration else {
@@ -112,7 +131,7 @@ fn add_next(
     };
     let number = next.len() as u32;
     let formula = formula_in(&column.content);
-    let kind = next_kind(alloc, columns, kinds, changed, number, formula)?;
+    let kind = next_kind(alloc, columns, kinds, changed, known, number, formula)?;
     next.push(kind)
 }
 
@@ -139,11 +158,20 @@ fn round(
     requires steady { AreSteady columns.now kinds.now changed.now.all changed.now.names.items 0 (formulas_of declarations.now) }
     ensures { IfOk result (λ next. next ≡ round_of columns.now (formulas_of declarations.now) kinds.now) }
 {
+    let known = known_names(alloc, columns, kinds)?;
     let mut next = Sequence::new(alloc);
     next.push(root_kind(kinds))?;
     let mut rest = declarations;
     while let Some((declaration, behind)) = rest.split_first() {
-        add_next(alloc, columns, kinds, changed, declaration, &mut next)?;
+        add_next(
+            alloc,
+            columns,
+            kinds,
+            changed,
+            &known,
+            declaration,
+            &mut next,
+        )?;
         rest = behind;
     }
     Ok(next)
@@ -189,7 +217,8 @@ fn changed_names(
 ///
 /// In each round every formula column of no known type takes the type of its formula under the types of the round before; one whose
 /// formula is refused stays unknown. There are as many rounds as formula columns; no later one is worked out once a round changes
-/// nothing, and in a round no formula is typed anew that mentions no column whose type the round before has found.
+/// nothing, and in a round no formula is typed anew that mentions no column whose type the round before has found, or that has no
+/// type as long as that of another column isn't found.
 pub fn final_kinds(
     alloc: Global,
     columns: &Columns,

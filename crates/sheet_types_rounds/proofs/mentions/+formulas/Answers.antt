@@ -1,5 +1,6 @@
 use Rattle.std.proofs.Common.{rules}
-use Rattle.sheet_types_rounds.proofs.MentionLaws.{mentions-Child, mentions-Up, mentions-Negate, mentions-Not, mentions-Binary, mentions-If, mentions-Call, mentions-Gather, mentions-GatherWhere, mentions-Test, mentions-Set}
+use Rattle.sheet_types_rounds.proofs.MentionLaws.{mentions-Child, mentions-Up, mentions-Negate, mentions-Not, mentions-Binary, mentions-If}
+use Rattle.sheet_types_rounds.proofs.MentionLaws.{mentions-Call, mentions-Gather, mentions-GatherWhere, mentions-Test, mentions-Set}
 use Rattle.sheet_types_rounds.proofs.mentions.+formulas.Goals as goal
 
 pub mentions-returns-in-Child : goal.mentions-returns-in-Child

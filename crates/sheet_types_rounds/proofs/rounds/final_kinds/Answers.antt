@@ -15,8 +15,11 @@ pub loop-preserved : goal.loop-preserved
 loop-preserved c =
     let grown : c.in_ok-next.next ≡ round_of c.args.columns.now (formulas_of c.as_slice-declarations.result.now) c.loop.kinds = search rules in
     let before : c.loop.counter < c.count_formulas-end.result = search rules in
-    let one = one_round c.args.columns.now (formulas_of c.as_slice-declarations.result.now) c.loop.kinds c.count_formulas-end.result c.loop.counter before in
-    (rw grown (sym one ∙ c.loop.invariant.0), steady_after c.args.columns.now c.loop.kinds c.in_ok-next.next c.in_ok-changed.changed.all c.in_ok-changed.changed.names.items (formulas_of c.as_slice-declarations.result.now) (search rules) (search rules) grown)
+    let one = one_round c.args.columns.now (formulas_of c.as_slice-declarations.result.now) c.loop.kinds c.count_formulas-end.result c.loop.counter before in (
+      rw grown (sym one ∙ c.loop.invariant.0),
+      steady_after c.args.columns.now c.loop.kinds c.in_ok-next.next c.in_ok-changed.changed.all c.in_ok-changed.changed.names.items
+          (formulas_of c.as_slice-declarations.result.now) (search rules) (search rules) grown,
+    )
 
 pub loop-init : goal.loop-init
 loop-init c = (search rules, search (rules, all_steady))
