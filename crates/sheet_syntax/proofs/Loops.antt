@@ -44,7 +44,8 @@ unfolding steps
 steps_cut limit end at line f rest e = let (d, is, test) = after_is sign.Dot rest [] e in rw (is, test) refl
 
 pub steps_more : (limit end at line : ℕ) (f : Formed) (rest us : List Token) (t : Token) → after sign.Dot rest ≡ Some (t ∷ us)
-    → steps limit end at line f rest ≡ (or_expected t.start (step_of line f.tree t.kind) >>= (λ form. made limit at form f.depth >>= (λ g. steps limit end at line g us)))
+    → steps limit end at line f
+    rest ≡ (or_expected t.start (step_of line f.tree t.kind) >>= (λ form. made limit at form f.depth >>= (λ g. steps limit end at line g us)))
 unfolding steps
 steps_more limit end at line f rest us t e = let (d, is, test) = after_is sign.Dot rest (t ∷ us) e in rw (is, test) refl
 
@@ -55,7 +56,8 @@ unfolding prefixes behind_prefixes
 prefixes_end p [] e = (refl, refl)
 prefixes_end p (t ∷ ts) e = let no = after_none (prefix_sign p) t ts e in (rw no refl, rw no refl)
 
-pub prefixes_more : (p : Prefix) (rest us : List Token) → after (prefix_sign p) rest ≡ Some us → (t : Token) × (rest ≡ t ∷ us) × (prefixes p rest ≡ t ∷ prefixes p us) × (behind_prefixes p rest ≡ behind_prefixes p us)
+pub prefixes_more : (p : Prefix) (rest us : List Token) → after (prefix_sign p) rest ≡ Some us →
+    (t : Token) × (rest ≡ t ∷ us) × (prefixes p rest ≡ t ∷ prefixes p us) × (behind_prefixes p rest ≡ behind_prefixes p us)
 unfolding prefixes behind_prefixes
 prefixes_more p [] us e = let wrong : ⊥ = cc in absurd wrong
 prefixes_more p (t ∷ ts) us e =
@@ -73,14 +75,16 @@ unfolding under_prefixes
 under_last limit p [] t r = refl
 under_last limit p (u ∷ ts) t r = rw (under_last limit p ts t r) refl
 
-pub under_refused : (limit : ℕ) (p : Prefix) (ts : List Token) (t : Token) (f : Formed) (e : SyntaxRefusal) → made limit t.start (prefixed p t.line f.tree) f.depth ≡ Err e
+pub under_refused : (limit : ℕ) (p : Prefix) (ts : List Token) (t : Token) (f : Formed) (e : SyntaxRefusal) →
+    made limit t.start (prefixed p t.line f.tree) f.depth ≡ Err e
     → under_prefixes limit p (ts ++ t ∷ []) (Ok f) ≡ Err e
 under_refused limit p ts t f e m = under_last limit p ts t (Ok f) ∙ ap (under_prefixes limit p ts) m ∙ under_error limit p ts e
 
 -- ---- refusals
 
 -- a refusal is passed on
-pub passed : {X Y Z W : Type 0} (view : X → Y) (other : Z → W) (e : SyntaxRefusal) (told : Answer Y) (whole : Answer W) → Reads view (Err e) told → ((d : SyntaxRefusal) → told ≡ Err d → whole ≡ Err d) → Reads other (Err e) whole
+pub passed : {X Y Z W : Type 0} (view : X → Y) (other : Z → W) (e : SyntaxRefusal) (told : Answer Y) (whole : Answer W) → Reads view (Err e) told →
+    ((d : SyntaxRefusal) → told ≡ Err d → whole ≡ Err d) → Reads other (Err e) whole
 passed view other (BadToken k) told whole h more = more (BadToken k) h
 passed view other (NumberTooWide k) told whole h more = more (NumberTooWide k) h
 passed view other (Expected k) told whole h more = more (Expected k) h

@@ -19,15 +19,18 @@ unfolding within
 turn_on limit end zero room ts e = absurd (omega arith)
 turn_on limit end (suc n) room ts e = let less : suc n - 1 ≡ n = omega arith in rw less refl
 
-pub turn_if : (limit end turns room : ℕ) (t : Token) (rest ts : List Token) → 0 < turns → rest ≡ t ∷ ts → sign_of t.kind ≡ sign.If → within limit end turns room rest ≡ chosen (setting limit end (turns - 1) room) t ts
+pub turn_if : (limit end turns room : ℕ) (t : Token) (rest ts : List Token) → 0 < turns → rest ≡ t ∷ ts → sign_of t.kind ≡ sign.If →
+    within limit end turns room rest ≡ chosen (setting limit end (turns - 1) room) t ts
 unfolding expression
 turn_if limit end turns room t rest ts some e is = turn_on limit end turns room rest some ∙ rw (e, is) refl
 
-pub turn_or : (limit end turns room : ℕ) (t : Token) (rest ts : List Token) → 0 < turns → rest ≡ t ∷ ts → same_sign (sign_of t.kind) sign.If ≡ false → within limit end turns room rest ≡ disjunction (setting limit end (turns - 1) room) rest
+pub turn_or : (limit end turns room : ℕ) (t : Token) (rest ts : List Token) → 0 < turns → rest ≡ t ∷ ts → same_sign (sign_of t.kind) sign.If ≡ false →
+    within limit end turns room rest ≡ disjunction (setting limit end (turns - 1) room) rest
 unfolding expression
 turn_or limit end turns room t rest ts some e is = turn_on limit end turns room rest some ∙ rw (e, is) refl
 
-pub turn_none : (limit end turns room : ℕ) (rest : List Token) → 0 < turns → rest ≡ [] → within limit end turns room rest ≡ disjunction (setting limit end (turns - 1) room) rest
+pub turn_none : (limit end turns room : ℕ) (rest : List Token) → 0 < turns → rest ≡ [] →
+    within limit end turns room rest ≡ disjunction (setting limit end (turns - 1) room) rest
 unfolding expression
 turn_none limit end turns room rest some e = turn_on limit end turns room rest some ∙ rw e refl
 

@@ -31,6 +31,7 @@ goes_on_by end nested w Nothing f rest = expect end sign.Then rest >>= (λ a. ne
 goes_on_by end nested w (Condition c) f rest = behind_condition end nested w c f rest
 goes_on_by end nested w (Branch c x) f rest = behind_branch w c x f rest
 
+-- how an if goes on behind the part that was just read
 abbrev pub goes_on : ℕ → Reader → OpenIf → Formed → List Token → Answer (Formed × List Token)
 goes_on end nested w f rest = goes_on_by end nested w w.parts f rest
 

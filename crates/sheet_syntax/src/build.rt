@@ -5,8 +5,9 @@ ghost use Rattle.sheet_syntax_trees.specs.Reading.{gather as gather_form, gather
 ghost use Rattle.sheet_syntax_trees.specs.Operators.{prefixed as prefixed_tree};
 
 use crate::front::{after, made, prefix_sign, step};
-use sheet_syntax_trees::{SyntaxRefusal, Token};
-use sheet_syntax_trees::{Formed, Function, Gathering, Operator, Prefix, Quantifier, Sign, Tree};
+use sheet_syntax_trees::{
+    Formed, Function, Gathering, Operator, Prefix, Quantifier, Sign, SyntaxRefusal, Token, Tree,
+};
 use sheet_values::Name;
 use sqlite_items::Boxed;
 use std::alloc::Global;

@@ -5,8 +5,9 @@ ghost use Rattle.sheet_syntax_trees.specs.Tokens.{Reads};
 ghost use Rattle.sheet_syntax_trees.specs.Reading.{offset as offset_of, line_of as line_of_tokens, sign_at as sign_of_first, after as tokens_after, expect as expected, name_at as name_of_first, made as formed, opened as opened_bracket, leaf as leaf_tree, step_of as step_tree, or_expected};
 ghost use Rattle.sheet_syntax_trees.specs.Operators.{operator_among as operator_of_level, repeats as level_repeats, prefix_sign as sign_of_prefix};
 
-use sheet_syntax_trees::{SyntaxRefusal, Token, TokenKind};
-use sheet_syntax_trees::{Formed, Level, Operator, Prefix, Sign, Tree, sign_of};
+use sheet_syntax_trees::{
+    Formed, Level, Operator, Prefix, Sign, SyntaxRefusal, Token, TokenKind, Tree, sign_of,
+};
 use sheet_values::Name;
 use sqlite_items::Boxed;
 use std::alloc::Global;

@@ -11,10 +11,7 @@ pub use front::{line_of, made, name_at, offset, step};
 pub use parser::{atom_at, formula_at};
 pub use read::{parse_at, parse_formula};
 pub use sheet_syntax_print::print_formula;
-pub use sheet_syntax_trees::{SyntaxRefusal, Token, TokenKind, Tokens, lex};
 pub use sheet_syntax_trees::{
-    Formed, Function, Gathering, Level, Operator, Prefix, Quantifier, Sign, Tree,
+    Formed, Function, Gathering, Level, Operator, Prefix, Quantifier, Sign, SyntaxRefusal, Token,
+    TokenKind, Tokens, Tree, lex,
 };
-
-#[cfg(test)]
-mod tests;

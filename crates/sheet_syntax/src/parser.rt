@@ -10,8 +10,10 @@ use crate::front::{
     after, at_if, expect, leaf, line_of, made, name_at, offset, operator_among, repeats, sign_at,
 };
 use crate::waiting::{OpenIf, Parts, Resumed, resume};
-use sheet_syntax_trees::{SyntaxRefusal, Token};
-use sheet_syntax_trees::{Formed, Function, Gathering, Level, Prefix, Quantifier, Sign, Tree, sign_of};
+use sheet_syntax_trees::{
+    Formed, Function, Gathering, Level, Prefix, Quantifier, Sign, SyntaxRefusal, Token, Tree,
+    sign_of,
+};
 use sheet_values::Name;
 use sqlite_items::Items;
 use std::alloc::Global;
@@ -94,7 +96,7 @@ fn closed_where<'a>(
 ) -> Result<(Formed, &'a [Token]), SyntaxRefusal>
     ensures { Reads (λ x. (x.0, x.1.now)) result (closed_gathering_where (setting 32 room.end room.turns room.brackets) gathering close token.now body name source rest.now) }
 {
-    let (condition, rest) = turn(alloc, rest, room.inside())?;
+    let (condition, rest) = nested_expression(alloc, rest, room.inside())?;
     let rest = expect(room.end, close, rest)?;
     let formed = gather_where(alloc, token, gathering, body, name, source, condition)?;
     Ok((formed, rest))
@@ -117,7 +119,7 @@ fn gathered<'a>(
     let rest = expect(room.end, Sign::Colon, rest)?;
     let (name, rest) = name_at(room.end, rest)?;
     let rest = expect(room.end, Sign::In, rest)?;
-    let (source, rest) = turn(alloc, rest, room.inside())?;
+    let (source, rest) = nested_expression(alloc, rest, room.inside())?;
     match after(Sign::Bar, rest) {
         None => closed(
             alloc, gathering, close, token, body, name, source, rest, room,
@@ -139,7 +141,7 @@ fn summed<'a>(
     ensures { Reads (λ x. (x.0, x.1.now)) result (summed_values (setting 32 room.end room.turns room.brackets) token.now rest.now) }
 {
     let rest = opened(Sign::Open, rest, room)?;
-    let (body, rest) = turn(alloc, rest, room.inside())?;
+    let (body, rest) = nested_expression(alloc, rest, room.inside())?;
     gathered(alloc, Gathering::Sum, Sign::Close, token, body, rest, room)
 }
 
@@ -157,9 +159,9 @@ fn tested<'a>(
     let rest = opened(Sign::Open, rest, room)?;
     let (name, rest) = name_at(room.end, rest)?;
     let rest = expect(room.end, Sign::In, rest)?;
-    let (source, rest) = turn(alloc, rest, room.inside())?;
+    let (source, rest) = nested_expression(alloc, rest, room.inside())?;
     let rest = expect(room.end, Sign::Bar, rest)?;
-    let (condition, rest) = turn(alloc, rest, room.inside())?;
+    let (condition, rest) = nested_expression(alloc, rest, room.inside())?;
     let rest = expect(room.end, Sign::Close, rest)?;
     let formed = test(alloc, token, quantifier, name, source, condition)?;
     Ok((formed, rest))
@@ -177,7 +179,7 @@ fn called<'a>(
     ensures { Reads (λ x. (x.0, x.1.now)) result (called_function (setting 32 room.end room.turns room.brackets) function token.now rest.now) }
 {
     let rest = opened(Sign::Open, rest, room)?;
-    let (argument, rest) = turn(alloc, rest, room.inside())?;
+    let (argument, rest) = nested_expression(alloc, rest, room.inside())?;
     let rest = expect(room.end, Sign::Close, rest)?;
     let formed = call(alloc, token, function, argument)?;
     Ok((formed, rest))
@@ -209,7 +211,7 @@ fn parts<'a>(
             Ok(behind) => behind,
             Err(refusal) => return Err(refusal),
         };
-        match turn(alloc, behind, room.inside()) {
+        match nested_expression(alloc, behind, room.inside()) {
             Ok((part, others)) => {
                 deepest = deepest.max(part.depth);
                 trees.push(part.tree)?;
@@ -236,7 +238,7 @@ fn braced<'a>(
         let formed = made(token.start, Tree::Set(token.line, Items::new(alloc)), 0)?;
         return Ok((formed, behind));
     }
-    let (first, rest) = turn(alloc, rest, room.inside())?;
+    let (first, rest) = nested_expression(alloc, rest, room.inside())?;
     match sign_at(rest) {
         Sign::Colon => gathered(
             alloc,
@@ -260,7 +262,7 @@ fn parenthesised<'a>(
 ) -> Result<(Formed, &'a [Token]), SyntaxRefusal>
     ensures { Reads (λ x. (x.0, x.1.now)) result (parenthesised_form (setting 32 room.end room.turns room.brackets) rest.now) }
 {
-    let (formed, rest) = turn(alloc, rest, room.inside())?;
+    let (formed, rest) = nested_expression(alloc, rest, room.inside())?;
     let rest = expect(room.end, Sign::Close, rest)?;
     Ok((formed, rest))
 }
@@ -412,7 +414,7 @@ fn chain<'a>(
 
 // An expression, in one turn less; an if takes a turn while its parts are read.
 #[cycle(parser)]
-fn turn<'a>(
+fn nested_expression<'a>(
     alloc: Global,
     rest: &'a [Token],
     room: Room,
@@ -461,7 +463,7 @@ pub fn formula_at<'a>(
         brackets: 32,
         turns: rest.len() + 1,
     };
-    turn(alloc, rest, room)
+    nested_expression(alloc, rest, room)
 }
 
 /// The formula at the front of tokens that has no operator and no step behind it, and the tokens behind it: one token, or

@@ -4,8 +4,7 @@ ghost use Rattle.sheet_syntax_trees.specs.Tokens.{Reads};
 ghost use Rattle.sheet_syntax.specs.Formulas.{Parses, ParsesAt, parsed, parsed_at};
 
 use crate::parser::formula_at;
-use sheet_syntax_trees::{SyntaxRefusal, Tokens, lex};
-use sheet_syntax_trees::Tree;
+use sheet_syntax_trees::{SyntaxRefusal, Tokens, Tree, lex};
 use std::alloc::Global;
 
 fn read_from(alloc: Global, tokens: &Tokens, from: usize) -> Result<(Tree, usize), SyntaxRefusal>

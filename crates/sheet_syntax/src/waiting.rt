@@ -5,8 +5,7 @@ ghost use Rattle.sheet_syntax.specs.Waiting.{Resumes, resumed_by, chosen_form};
 
 use crate::front::{expect, made};
 use crate::parser::Room;
-use sheet_syntax_trees::{SyntaxRefusal, Token};
-use sheet_syntax_trees::{Formed, Sign, Tree};
+use sheet_syntax_trees::{Formed, Sign, SyntaxRefusal, Token, Tree};
 use sqlite_items::Boxed;
 use std::alloc::Global;
 

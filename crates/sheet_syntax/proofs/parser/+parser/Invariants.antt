@@ -40,8 +40,8 @@ decreases-operand l = 50 * l.room.turns + 6 * level_rank l.level + 12
 abbrev pub decreases-chain : goal.decreases-chain
 decreases-chain l = 50 * l.room.turns + 6 * level_rank l.level + 14
 
-abbrev pub decreases-turn : goal.decreases-turn
-decreases-turn l = 50 * l.room.turns
+abbrev pub decreases-nested_expression : goal.decreases-nested_expression
+decreases-nested_expression l = 50 * l.room.turns
 
 abbrev pub decreases-closed_where : goal.decreases-closed_where
 decreases-closed_where l = 50 * l.room.turns + 3
@@ -56,8 +56,10 @@ invariant-parts-loop l =
     let s = setting 32 l.room.end l.room.turns l.room.brackets in
     parts s (l.end - l.counter) l.token l.trees l.deepest l.remaining ≡ parts s (length l.fn.rest) l.token (l.fn.first.tree ∷ []) l.fn.first.depth l.fn.rest
 
-abbrev pub invariant-turn-loop-alloc : goal.invariant-turn-loop-alloc
-invariant-turn-loop-alloc l = resumed_by l.room.end l.room.turns l.room.brackets l.waiting.items (within 32 l.room.end (l.room.turns - length l.waiting.items) l.room.brackets l.remaining) ≡ within 32 l.room.end l.room.turns l.room.brackets l.rest
+abbrev pub invariant-nested_expression-loop-alloc : goal.invariant-nested_expression-loop-alloc
+invariant-nested_expression-loop-alloc l =
+    resumed_by l.room.end l.room.turns l.room.brackets l.waiting.items
+    (within 32 l.room.end (l.room.turns - length l.waiting.items) l.room.brackets l.remaining) ≡ within 32 l.room.end l.room.turns l.room.brackets l.rest
 
-abbrev pub decreases-turn-loop-alloc : goal.decreases-turn-loop-alloc
-decreases-turn-loop-alloc l = length l.remaining
+abbrev pub decreases-nested_expression-loop-alloc : goal.decreases-nested_expression-loop-alloc
+decreases-nested_expression-loop-alloc l = length l.remaining
