@@ -16,7 +16,9 @@ joined_before [] rest = rest
 joined_before (r ∷ rs) rest = in_front r (joined_before rs rest)
 
 module _ {A : Type 0} where
-  outcomes : (o : Outcome (List A)) (q : Outcome (List (List A))) → after (both_outcomes o (after q (λ parts. Ok (joined parts)))) (λ x. Ok (x.0 ++ x.1)) ≡ after (after (both_outcomes o q) (λ x. Ok (x.0 ∷ x.1))) (λ parts. Ok (joined parts))
+  outcomes : (o : Outcome (List A)) (q : Outcome (List (List A))) →
+      after (both_outcomes o (after q (λ parts. Ok (joined parts)))) (λ x. Ok (x.0 ++ x.1)) ≡ after (after (both_outcomes o q) (λ x. Ok (x.0 ∷ x.1)))
+      (λ parts. Ok (joined parts))
   outcomes (Ok xs) (Ok xss) = refl
   outcomes (Ok xs) (Err f) = refl
   outcomes (Err e) (Ok xss) = refl
@@ -35,6 +37,7 @@ module _ {A : Type 0} where
   pub joined_start : (rs : List (Run (List A))) (start : Run (List A)) (l : List A) → start ≡ given (Ok l) → l ≡ [] → joined_before rs start ≡ all_joined rs
   joined_start rs start l is empty = ap (joined_before rs) (is ∙ ap (λ (m : List A). given (Ok m)) empty) ∙ joined_all rs
 
-  pub joined_step : (rs left : List (Run (List A))) (r rest next whole : Run (List A)) → joined_before rs rest ≡ whole → rs ≡ left ++ r ∷ [] → next ≡ in_front r rest → joined_before left next ≡ whole
+  pub joined_step : (rs left : List (Run (List A))) (r rest next whole : Run (List A)) → joined_before rs rest ≡ whole → rs ≡ left ++ r ∷ [] →
+      next ≡ in_front r rest → joined_before left next ≡ whole
   joined_step rs left r rest next whole so_far cut is =
       ap (joined_before left) is ∙ sym (joined_last left r rest) ∙ sym (ap (λ l. joined_before l rest) cut) ∙ so_far

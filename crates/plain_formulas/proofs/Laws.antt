@@ -3,7 +3,9 @@ use Rattle.std.proofs.Common.{◌≡◌, refl, sym, ap, ◌∙◌, ℕ, Bool, Li
 use Rattle.std.specs.Prelude.{pos, ◌+ℤ◌, map, fold, IfOk, Result}
 use denote.Hole.Carrier.{hidden}
 use Rattle.sheet_columns.specs.declared.formula.Core.TheBlock.{hidden-the_row-Core-0, hidden-the_row-Core-1}
-use Rattle.sheet_columns.specs.declared.formula.Core.{Core, Row_of-Core, end_of-Core, more_of-Core, items-the_row-Core, items_hidden-the_row-Core-1, ObjectStep, StateStep, FormulaStep, Up, Set, Combine, Compare, Order, Arithmetic, Negate, Join, Not, Connect, If, Count, Only, Extreme, Comprehension, Sum, Quantify}
+use Rattle.sheet_columns.specs.declared.formula.Core.{Core, Row_of-Core, end_of-Core, more_of-Core, items-the_row-Core, items_hidden-the_row-Core-1, ObjectStep}
+use Rattle.sheet_columns.specs.declared.formula.Core.{StateStep, FormulaStep, Up, Set, Combine, Compare, Order, Arithmetic, Negate, Join, Not, Connect, If}
+use Rattle.sheet_columns.specs.declared.formula.Core.{Count, Only, Extreme, Comprehension, Sum, Quantify}
 use Rattle.sheet_columns.specs.declared.formula.SetOperator.{SetOperator}
 use Rattle.sheet_columns.specs.declared.formula.SetTest.{SetTest}
 use Rattle.sheet_columns.specs.declared.formula.OrderTest.{OrderTest}
@@ -16,8 +18,10 @@ use Rattle.sheet_columns.specs.declared.fault.Place.{Place}
 use Rattle.sheet_values.specs.declared.value.Value.{Value}
 use Rattle.sheet_meaning.specs.declared.run.Run.{Run}
 use Rattle.sheet_meaning.specs.Run.{Outcome, finish, run_after, and_then, all}
-use Rattle.sheet_meaning.specs.Formula.{World, Variables, run, run_each, bind, truth, number, step, extent_of, stored_of, worked_of, parent_of, quantified, joined, single, turn, told, fits}
-use Rattle.plain_formulas.specs.Forms.{combined, compared, in_order, calculated, negated, joined_texts, denied, connected, chosen, counted, only, extreme_of, united, singles, turns, number_turns, truths_of, totalled, answered, quantified_over, for_source, values_in}
+use Rattle.sheet_meaning.specs.Formula.{World, Variables, run, run_each, bind, truth, number, step, extent_of, stored_of, worked_of, parent_of, quantified}
+use Rattle.sheet_meaning.specs.Formula.{joined, single, turn, told, fits}
+use Rattle.plain_formulas.specs.Forms.{combined, compared, in_order, calculated, negated, joined_texts, denied, connected, chosen, counted, only, extreme_of}
+use Rattle.plain_formulas.specs.Forms.{united, singles, turns, number_turns, truths_of, totalled, answered, quantified_over, for_source, values_in}
 
 pub same_if_ok : {A E : Type 0} (r : Result A E) {x y : A} → x ≡ y → IfOk r (λ a. a ≡ x) → IfOk r (λ a. a ≡ y)
 same_if_ok (Ok a) e h = h ∙ e
@@ -28,7 +32,8 @@ map_map g f [] = refl
 map_map g f (x ∷ xs) = ap (λ ys. g (f x) ∷ ys) (map_map g f xs)
 
 -- what is made for the values of a source
-for_values : (r : Run (List Value)) (f g : List Value → Run (List Value)) → ((s : List Value) → f s ≡ g s) → for_source r (f (values_in r.outcome)) ≡ and_then r g
+for_values : (r : Run (List Value)) (f g : List Value → Run (List Value)) → ((s : List Value) → f s ≡ g s) →
+    for_source r (f (values_in r.outcome)) ≡ and_then r g
 for_values r f g same = ap (λ (next : Run (List Value)). record { outcome = next.outcome; uses = r.uses ++ next.uses }) (by_outcome r.outcome)
   where
     by_outcome : (o : Outcome (List Value)) → run_after o (λ s. f (values_in o)) ≡ run_after o g
@@ -45,11 +50,14 @@ finish_next {A} {B} r f g = ap (λ (next : Run B). record { outcome = next.outco
 
 module _ (w : World) (p : Place) (v : Variables) where
   -- a form of one part, of two and of three
-  pub unary : (h : Run (List Value) → Run (List Value)) (make : Core → Core) → ((e : Core) → run (make e) w p v ≡ h (run e w p v)) → (core e child : Core) (r : Run (List Value)) → core ≡ make e → child ≡ e → r ≡ run child w p v → h r ≡ run core w p v
+  pub unary : (h : Run (List Value) → Run (List Value)) (make : Core → Core) → ((e : Core) → run (make e) w p v ≡ h (run e w p v)) →
+      (core e child : Core) (r : Run (List Value)) → core ≡ make e → child ≡ e → r ≡ run child w p v → h r ≡ run core w p v
   unary h make law core e child r is same first =
       ap h (first ∙ ap (λ k. run k w p v) same) ∙ sym (law e) ∙ sym (ap (λ k. run k w p v) is)
 
-  pub binary : (h : Run (List Value) → Run (List Value) → Run (List Value)) (make : Core → Core → Core) → ((a b : Core) → run (make a b) w p v ≡ h (run a w p v) (run b w p v)) → (core a b left right : Core) (r s : Run (List Value)) → core ≡ make a b → left ≡ a → right ≡ b → r ≡ run left w p v → s ≡ run right w p v → h r s ≡ run core w p v
+  pub binary : (h : Run (List Value) → Run (List Value) → Run (List Value)) (make : Core → Core → Core) →
+      ((a b : Core) → run (make a b) w p v ≡ h (run a w p v) (run b w p v)) → (core a b left right : Core) (r s : Run (List Value)) → core ≡ make a b →
+      left ≡ a → right ≡ b → r ≡ run left w p v → s ≡ run right w p v → h r s ≡ run core w p v
   binary h make law core a b left right r s is same_a same_b first second =
       ap (λ x. h x s) (first ∙ ap (λ k. run k w p v) same_a)
       ∙ ap (h (run a w p v)) (second ∙ ap (λ k. run k w p v) same_b)
@@ -80,7 +88,8 @@ module _ (w : World) (p : Place) (v : Variables) where
   run-Set parts =
       ap united (each_row (hidden-the_row-Core-1 parts) ∙ ap (map (λ e. single (run e w p v))) (items_hidden-the_row-Core-1 parts))
 
-  pub set_form : (core : Core) (parts read : List Core) (rs : List (Run (List Value))) → core ≡ Set parts → read ≡ parts → rs ≡ map (λ e. run e w p v) read → united (singles rs) ≡ run core w p v
+  pub set_form : (core : Core) (parts read : List Core) (rs : List (Run (List Value))) → core ≡ Set parts → read ≡ parts → rs ≡ map (λ e. run e w p v) read →
+      united (singles rs) ≡ run core w p v
   set_form core parts read rs is same each =
       ap (λ l. united (singles l)) (each ∙ ap (map (λ e. run e w p v)) same)
       ∙ ap united (map_map single (λ e. run e w p v) parts)
@@ -123,7 +132,8 @@ module _ (w : World) (p : Place) (v : Variables) where
   unfolding hidden hidden-the_row-Core-0
   run-If c a b = refl
 
-  pub if_form : (core c a b condition left right : Core) (q r s : Run (List Value)) → core ≡ If c a b → condition ≡ c → left ≡ a → right ≡ b → q ≡ run condition w p v → r ≡ run left w p v → s ≡ run right w p v → chosen p q r s ≡ run core w p v
+  pub if_form : (core c a b condition left right : Core) (q r s : Run (List Value)) → core ≡ If c a b → condition ≡ c → left ≡ a → right ≡ b →
+      q ≡ run condition w p v → r ≡ run left w p v → s ≡ run right w p v → chosen p q r s ≡ run core w p v
   if_form core c a b condition left right q r s is same_c same_a same_b first second third =
       ap (λ x. chosen p x r s) (first ∙ ap (λ k. run k w p v) same_c)
       ∙ ap (λ x. chosen p (run c w p v) x s) (second ∙ ap (λ k. run k w p v) same_a)
@@ -147,52 +157,72 @@ module _ (w : World) (p : Place) (v : Variables) where
   abbrev pub pair_at : Core → Core → Value → Run (List Value) × Run (List Value)
   pair_at condition body x = (run condition w p (bind v x), run body w p (bind v x))
 
-  run-Comprehension : (body source condition : Core) → run (Comprehension body source condition) w p v ≡ and_then (run source w p v) (λ s. united (map (λ x. turn (truth p (run condition w p (bind v x))) (run body w p (bind v x))) s))
+  run-Comprehension : (body source condition : Core) →
+      run (Comprehension body source condition) w p v ≡ and_then (run source w p v)
+      (λ s. united (map (λ x. turn (truth p (run condition w p (bind v x))) (run body w p (bind v x))) s))
   unfolding hidden hidden-the_row-Core-0
   run-Comprehension body source condition = refl
 
-  pub comprehension_form : (core body source condition given read holds : Core) (r : Run (List Value)) (pairs : List (Run (List Value) × Run (List Value))) → core ≡ Comprehension body source condition → given ≡ body → read ≡ source → holds ≡ condition → r ≡ run read w p v → pairs ≡ map (pair_at holds given) (values_in r.outcome) → for_source r (united (turns p pairs)) ≡ run core w p v
+  pub comprehension_form : (core body source condition given read holds : Core) (r : Run (List Value)) (pairs : List (Run (List Value) × Run (List Value))) →
+      core ≡ Comprehension body source condition → given ≡ body → read ≡ source → holds ≡ condition → r ≡ run read w p v →
+      pairs ≡ map (pair_at holds given) (values_in r.outcome) → for_source r (united (turns p pairs)) ≡ run core w p v
   comprehension_form core body source condition given read holds r pairs is same_body same_source same_condition first each =
       ap (λ l. for_source r (united (turns p l)))
       (each
       ∙ ap (λ h. map (pair_at h given) (values_in r.outcome)) same_condition
       ∙ ap (λ g. map (pair_at condition g) (values_in r.outcome)) same_body)
-      ∙ for_values r (λ s. united (turns p (map (pair_at condition body) s))) (λ s. united (map (λ x. turn (truth p (run condition w p (bind v x))) (run body w p (bind v x))) s))
+      ∙ for_values r (λ s. united (turns p (map (pair_at condition body) s)))
+      (λ s. united (map (λ x. turn (truth p (run condition w p (bind v x))) (run body w p (bind v x))) s))
       (λ s. ap united (map_map (λ (x : Run (List Value) × Run (List Value)). turn (truth p x.0) x.1) (pair_at condition body) s))
-      ∙ ap (λ q. and_then q (λ s. united (map (λ x. turn (truth p (run condition w p (bind v x))) (run body w p (bind v x))) s))) (first ∙ ap (λ k. run k w p v) same_source)
+      ∙ ap (λ q. and_then q (λ s. united (map (λ x. turn (truth p (run condition w p (bind v x))) (run body w p (bind v x))) s)))
+      (first ∙ ap (λ k. run k w p v) same_source)
       ∙ sym (run-Comprehension body source condition)
       ∙ sym (ap (λ k. run k w p v) is)
 
-  run-Sum : (body source condition : Core) → run (Sum body source condition) w p v ≡ finish (and_then (run source w p v) (λ s. finish (all (map (λ x. turn (truth p (run condition w p (bind v x))) (number p (run body w p (bind v x)))) s)) (λ parts. Ok (fold ◌+ℤ◌ (pos 0) (joined parts))))) (fits p)
+  run-Sum : (body source condition : Core) →
+      run (Sum body source condition) w p v ≡ finish
+      (and_then (run source w p v) (λ s. finish (all (map (λ x. turn (truth p (run condition w p (bind v x))) (number p (run body w p (bind v x)))) s))
+      (λ parts. Ok (fold ◌+ℤ◌ (pos 0) (joined parts))))) (fits p)
   unfolding hidden hidden-the_row-Core-0
   run-Sum body source condition = refl
 
-  pub sum_form : (core body source condition given read holds : Core) (r : Run (List Value)) (pairs : List (Run (List Value) × Run (List Value))) → core ≡ Sum body source condition → given ≡ body → read ≡ source → holds ≡ condition → r ≡ run read w p v → pairs ≡ map (pair_at holds given) (values_in r.outcome) → for_source r (totalled p (number_turns p pairs)) ≡ run core w p v
+  pub sum_form : (core body source condition given read holds : Core) (r : Run (List Value)) (pairs : List (Run (List Value) × Run (List Value))) →
+      core ≡ Sum body source condition → given ≡ body → read ≡ source → holds ≡ condition → r ≡ run read w p v →
+      pairs ≡ map (pair_at holds given) (values_in r.outcome) → for_source r (totalled p (number_turns p pairs)) ≡ run core w p v
   sum_form core body source condition given read holds r pairs is same_body same_source same_condition first each =
       ap (λ l. for_source r (totalled p (number_turns p l)))
       (each
       ∙ ap (λ h. map (pair_at h given) (values_in r.outcome)) same_condition
       ∙ ap (λ g. map (pair_at condition g) (values_in r.outcome)) same_body)
-      ∙ for_values r (λ s. totalled p (number_turns p (map (pair_at condition body) s))) (λ s. totalled p (map (λ x. turn (truth p (run condition w p (bind v x))) (number p (run body w p (bind v x)))) s))
+      ∙ for_values r (λ s. totalled p (number_turns p (map (pair_at condition body) s)))
+      (λ s. totalled p (map (λ x. turn (truth p (run condition w p (bind v x))) (number p (run body w p (bind v x)))) s))
       (λ s. ap (totalled p) (map_map (λ (x : Run (List Value) × Run (List Value)). turn (truth p x.0) (number p x.1)) (pair_at condition body) s))
-      ∙ ap (λ q. and_then q (λ s. totalled p (map (λ x. turn (truth p (run condition w p (bind v x))) (number p (run body w p (bind v x)))) s))) (first ∙ ap (λ k. run k w p v) same_source)
-      ∙ finish_next (run source w p v) (λ s. finish (all (map (λ x. turn (truth p (run condition w p (bind v x))) (number p (run body w p (bind v x)))) s)) (λ parts. Ok (fold ◌+ℤ◌ (pos 0) (joined parts)))) (fits p)
+      ∙ ap (λ q. and_then q (λ s. totalled p (map (λ x. turn (truth p (run condition w p (bind v x))) (number p (run body w p (bind v x)))) s)))
+      (first ∙ ap (λ k. run k w p v) same_source)
+      ∙ finish_next (run source w p v) (λ s. finish (all (map (λ x. turn (truth p (run condition w p (bind v x))) (number p (run body w p (bind v x)))) s))
+      (λ parts. Ok (fold ◌+ℤ◌ (pos 0) (joined parts)))) (fits p)
       ∙ sym (run-Sum body source condition)
       ∙ sym (ap (λ k. run k w p v) is)
 
-  run-Quantify : (q : Quantifier) (source condition : Core) → run (Quantify q source condition) w p v ≡ finish (and_then (run source w p v) (quantified q (λ x. truth p (run condition w p (bind v x))))) told
+  run-Quantify : (q : Quantifier) (source condition : Core) →
+      run (Quantify q source condition) w p v ≡ finish (and_then (run source w p v) (quantified q (λ x. truth p (run condition w p (bind v x))))) told
   unfolding hidden hidden-the_row-Core-0
   run-Quantify q source condition = refl
 
-  by_quantifier : (q : Quantifier) (f : Value → Run Bool) (s : List Value) → finish (all (map (λ x. single (f x)) s)) (λ parts. Ok (answered q (joined parts))) ≡ quantified q f s
+  by_quantifier : (q : Quantifier) (f : Value → Run Bool) (s : List Value) →
+      finish (all (map (λ x. single (f x)) s)) (λ parts. Ok (answered q (joined parts))) ≡ quantified q f s
   by_quantifier Any f s = refl
   by_quantifier All f s = refl
 
-  pub quantify_form : (q : Quantifier) (core source condition read holds : Core) (r : Run (List Value)) (conditions : List (Run (List Value))) → core ≡ Quantify q source condition → read ≡ source → holds ≡ condition → r ≡ run read w p v → conditions ≡ map (λ x. run holds w p (bind v x)) (values_in r.outcome) → for_source r (quantified_over q (singles (truths_of p conditions))) ≡ run core w p v
+  pub quantify_form : (q : Quantifier) (core source condition read holds : Core) (r : Run (List Value)) (conditions : List (Run (List Value))) →
+      core ≡ Quantify q source condition → read ≡ source → holds ≡ condition → r ≡ run read w p v →
+      conditions ≡ map (λ x. run holds w p (bind v x)) (values_in r.outcome) →
+      for_source r (quantified_over q (singles (truths_of p conditions))) ≡ run core w p v
   quantify_form q core source condition read holds r conditions is same_source same_condition first each =
       ap (λ l. for_source r (quantified_over q (singles (truths_of p l))))
       (each ∙ ap (λ h. map (λ x. run h w p (bind v x)) (values_in r.outcome)) same_condition)
-      ∙ for_values r (λ s. quantified_over q (singles (truths_of p (map (λ x. run condition w p (bind v x)) s)))) (λ s. finish (quantified q (λ x. truth p (run condition w p (bind v x))) s) told)
+      ∙ for_values r (λ s. quantified_over q (singles (truths_of p (map (λ x. run condition w p (bind v x)) s))))
+      (λ s. finish (quantified q (λ x. truth p (run condition w p (bind v x))) s) told)
       (λ s.
       ap (quantified_over q)
       (ap singles (map_map (truth p) (λ x. run condition w p (bind v x)) s)

@@ -39,12 +39,15 @@ module _ {X : Type 0} (xs : List X) (i : ℕ) (x : X) (lt : i < length xs) (e : 
         ∙ sym (ap (filter_map f) taken)
 
   -- what is made of the list is made of its parts
-  pub one_joined : {Y : Type 0} (h : List X → List Y) → ((us vs : List X) → h (us ++ vs) ≡ h us ++ h vs) → (ys zs : List Y) → ys ≡ h (take i xs) → zs ≡ ys ++ h (x ∷ []) → zs ≡ h (take (i + 1) xs)
+  pub one_joined : {Y : Type 0} (h : List X → List Y) → ((us vs : List X) → h (us ++ vs) ≡ h us ++ h vs) → (ys zs : List Y) → ys ≡ h (take i xs) →
+      zs ≡ ys ++ h (x ∷ []) → zs ≡ h (take (i + 1) xs)
   one_joined h parts ys zs so_far more = more ∙ ap (λ l. l ++ h (x ∷ [])) so_far ∙ sym (parts (take i xs) (x ∷ [])) ∙ sym (ap h taken)
 
 pub reads_join : (us vs : List Value) → live_reads (us ++ vs) ≡ live_reads us ++ live_reads vs
-reads_join us vs = ap (map (λ o. Read (Live o))) (filter_map-append object_in us vs) ∙ map-append (λ o. Read (Live o)) (filter_map object_in us) (filter_map object_in vs)
+reads_join us vs =
+    ap (map (λ o. Read (Live o))) (filter_map-append object_in us vs) ∙ map-append (λ o. Read (Live o)) (filter_map object_in us) (filter_map object_in vs)
 
 -- a fold goes on
-pub one_folded : {X Y : Type 0} (xs : List X) (i : ℕ) (d : X) → i < length xs → (f : Y → X → Y) (a y z : Y) → y ≡ fold f a (take i xs) → z ≡ f y (get_or xs i d) → z ≡ fold f a (take (i + 1) xs)
+pub one_folded : {X Y : Type 0} (xs : List X) (i : ℕ) (d : X) → i < length xs → (f : Y → X → Y) (a y z : Y) → y ≡ fold f a (take i xs) →
+    z ≡ f y (get_or xs i d) → z ≡ fold f a (take (i + 1) xs)
 one_folded xs i d lt f a y z so_far more = more ∙ ap (λ b. f b (get_or xs i d)) so_far ∙ sym (fold_more f a xs i d lt)

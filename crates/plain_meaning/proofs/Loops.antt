@@ -33,7 +33,8 @@ module _ {X : Type 0} (xs : List X) (i : ℕ) (x : X) (lt : i < length xs) (e : 
   taken = take_more xs i x lt ∙ ap (λ y. take i xs ++ y ∷ []) (sym e)
 
   -- what is made of the list is made of its parts
-  pub one_joined : {Y : Type 0} (h : List X → List Y) → ((us vs : List X) → h (us ++ vs) ≡ h us ++ h vs) → (start ys zs : List Y) → ys ≡ start ++ h (take i xs) → zs ≡ ys ++ h (x ∷ []) → zs ≡ start ++ h (take (i + 1) xs)
+  pub one_joined : {Y : Type 0} (h : List X → List Y) → ((us vs : List X) → h (us ++ vs) ≡ h us ++ h vs) → (start ys zs : List Y) →
+      ys ≡ start ++ h (take i xs) → zs ≡ ys ++ h (x ∷ []) → zs ≡ start ++ h (take (i + 1) xs)
   one_joined h parts start ys zs so_far more =
       more
       ∙ ap (λ l. l ++ h (x ∷ [])) so_far
@@ -41,7 +42,8 @@ module _ {X : Type 0} (xs : List X) (i : ℕ) (x : X) (lt : i < length xs) (e : 
       ∙ ap (λ l. start ++ l) (sym (parts (take i xs) (x ∷ [])) ∙ sym (ap h taken))
 
 -- what each of some things gives, one after the other, changed
-pub picked_parts : {X Y Z : Type 0} (g : Y → Z) (f : X → Option Y) (us vs : List X) → map g (filter_map f (us ++ vs)) ≡ map g (filter_map f us) ++ map g (filter_map f vs)
+pub picked_parts : {X Y Z : Type 0} (g : Y → Z) (f : X → Option Y) (us vs : List X) →
+    map g (filter_map f (us ++ vs)) ≡ map g (filter_map f us) ++ map g (filter_map f vs)
 picked_parts g f us vs = ap (map g) (filter_map-append f us vs) ∙ map-append g (filter_map f us) (filter_map f vs)
 
 pub flat_parts : {X Y Z : Type 0} (g : Y → Z) (f : X → List Y) (us vs : List X) → map g (flat_map f (us ++ vs)) ≡ map g (flat_map f us) ++ map g (flat_map f vs)

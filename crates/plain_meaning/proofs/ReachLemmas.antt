@@ -15,7 +15,8 @@ use Rattle.plain_meaning.specs.Reached.{uses_in, cells_in, items_in, spread_by, 
 use Rattle.plain_meaning.proofs.TableLemmas.{as_many}
 
 -- one more time
-pub spread_more : (reads : Cell → List Cell) (k : ℕ) (start cells read next : List Cell) → cells ≡ spread_by reads k start → read ≡ flat_map reads cells → next ≡ with_cells cells read → next ≡ spread_by reads (k + 1) start
+pub spread_more : (reads : Cell → List Cell) (k : ℕ) (start cells read next : List Cell) → cells ≡ spread_by reads k start → read ≡ flat_map reads cells →
+    next ≡ with_cells cells read → next ≡ spread_by reads (k + 1) start
 spread_more reads k start cells read next so_far more with =
     let one : suc k ≡ k + 1 = omega arith in
     with
@@ -27,7 +28,9 @@ module _ (w : Workbook) where
   uses_found : (fs : List FormulaCell) (x : Cell) → uses_in (map (cell_run (settled_world w)) fs) x ≡ uses_of w (cell_at fs x)
   uses_found [] x = refl
   uses_found (f ∷ fs) x =
-      elim (f.object == x.0 && f.column == x.1) as (λ b. (if b then (run_cell (settled_world w) f).uses else uses_in (map (cell_run (settled_world w)) fs) x) ≡ uses_of w (if b then Some f else cell_at fs x)) [
+      elim (f.object == x.0 && f.column == x.1)
+      as (λ b. (if b then (run_cell (settled_world w) f).uses else uses_in (map (cell_run (settled_world w)) fs) x) ≡ uses_of w
+      (if b then Some f else cell_at fs x)) [
         | true ↦ refl
         | false ↦ uses_found fs x
       ]

@@ -10,7 +10,9 @@ use Rattle.sheet_meaning.specs.Formula.{Variables, bind}
 use Rattle.sheet_meaning.specs.Page.{row_uses}
 use Rattle.plain_meaning.specs.Pages.{slots_used}
 
-pub rows_more : (w : Workbook) (v bound : Variables) (slots : List CoreSlot) (x : Value) (rest more : List Value) (uses next whole : List Use) → uses ++ flat_map (row_uses w v slots) rest ≡ whole → rest ≡ x ∷ more → bound ≡ bind v x → next ≡ uses ++ slots_used w bound slots → next ++ flat_map (row_uses w v slots) more ≡ whole
+pub rows_more : (w : Workbook) (v bound : Variables) (slots : List CoreSlot) (x : Value) (rest more : List Value) (uses next whole : List Use) →
+    uses ++ flat_map (row_uses w v slots) rest ≡ whole → rest ≡ x ∷ more → bound ≡ bind v x → next ≡ uses ++ slots_used w bound slots →
+    next ++ flat_map (row_uses w v slots) more ≡ whole
 rows_more w v bound slots x rest more uses next whole so_far cut same is =
     ap (λ l. l ++ flat_map (row_uses w v slots) more) (is ∙ ap (λ b. uses ++ slots_used w b slots) same)
     ∙ append_assoc uses (row_uses w v slots x) (flat_map (row_uses w v slots) more)

@@ -28,7 +28,8 @@ told_beside (f ∷ fs) (x ∷ t) o c = ap (λ r. if f.object == o && f.column ==
 pub same_world : (w : Workbook) (t : Table) → scene w.state (cells_with w t) ≡ world_at w t
 same_world w t = ap (world w) (fun_ext (λ o. fun_ext (λ c. told_beside (formula_cells w) t o c)))
 
-beside_map : (g : FormulaCell → Outcome (List Value)) (fs : List FormulaCell) → map (λ (f : FormulaCell). record { object = f.object; column = f.column; outcome = g f }) fs ≡ beside fs (map g fs)
+beside_map : (g : FormulaCell → Outcome (List Value)) (fs : List FormulaCell) →
+    map (λ (f : FormulaCell). record { object = f.object; column = f.column; outcome = g f }) fs ≡ beside fs (map g fs)
 beside_map g [] = refl
 beside_map g (f ∷ fs) = ap (λ (l : List WorkedCell). record { object = f.object; column = f.column; outcome = g f } ∷ l) (beside_map g fs)
 
@@ -36,7 +37,8 @@ beside_map g (f ∷ fs) = ap (λ (l : List WorkedCell). record { object = f.obje
 pub first_cells : (w : Workbook) (u : World) (runs : List CellRun) → runs ≡ cell_runs w u → map unworked runs ≡ cells_with w (table w 0)
 first_cells w u runs e = ap (map unworked) e ∙ map_map unworked (cell_run u) (formula_cells w) ∙ beside_map (λ f. none) (formula_cells w)
 
-pub more_cells : (w : Workbook) (k : ℕ) (cells : List WorkedCell) (runs : List CellRun) → cells ≡ cells_with w (table w k) → runs ≡ cell_runs w (scene w.state cells) → map worked runs ≡ cells_with w (table w (k + 1))
+pub more_cells : (w : Workbook) (k : ℕ) (cells : List WorkedCell) (runs : List CellRun) → cells ≡ cells_with w (table w k) →
+    runs ≡ cell_runs w (scene w.state cells) → map worked runs ≡ cells_with w (table w (k + 1))
 more_cells w k cells runs so_far e =
     let one : suc k ≡ k + 1 = omega arith in
     ap (map worked) (e ∙ ap (cell_runs w) (ap (scene w.state) so_far ∙ same_world w (table w k)))
@@ -53,7 +55,8 @@ pub as_many : (w : Workbook) (u : World) (runs : List CellRun) → runs ≡ cell
 as_many w u runs e = ap length e ∙ length_map (cell_run u) (formula_cells w)
 
 -- a formula over the cells' meanings
-pub settled_value : (w : Workbook) (cells : List WorkedCell) (e : Core) (p : Place) (v : Variables) → cells ≡ settled_cells w → run e (scene w.state cells) p v ≡ run e (settled_world w) p v
+pub settled_value : (w : Workbook) (cells : List WorkedCell) (e : Core) (p : Place) (v : Variables) → cells ≡ settled_cells w →
+    run e (scene w.state cells) p v ≡ run e (settled_world w) p v
 settled_value w cells e p v same = ap (λ u. run e u p v) (ap (scene w.state) same ∙ same_world w (table w (rounds w)))
 
 -- the root stands under no column
@@ -61,5 +64,6 @@ pub root_above : (nodes : List Node) (c : ℕ) → IsTree nodes → c ≡ 0 → 
 root_above nodes c tree e = sym (ap (above_of nodes) e ∙ ap (option_and_then (λ (n : Node). n.above)) tree.first)
 
 -- the formula cells, worked out once more over their meanings
-pub settled_again : (w : Workbook) (cells read : List WorkedCell) → cells ≡ settled_cells w → read ≡ cells → cell_runs w (scene w.state read) ≡ cell_runs w (settled_world w)
+pub settled_again : (w : Workbook) (cells read : List WorkedCell) → cells ≡ settled_cells w → read ≡ cells →
+    cell_runs w (scene w.state read) ≡ cell_runs w (settled_world w)
 settled_again w cells read e same = ap (cell_runs w) (ap (scene w.state) (same ∙ e) ∙ same_world w (table w (rounds w)))

@@ -37,10 +37,14 @@ one_listed (Some k) rest = refl
 
 one_column : (nodes : List Node) (c k : ℕ) (n : Node) → slice_get nodes k ≡ Some n → column_at nodes c k ≡ map brief (option_to_list (state_column c (k, n)))
 one_column nodes c k n at =
-    ap (λ o. if is_number c (option_and_then (λ (m : Node). m.above) o) then map brief (option_to_list (option_and_then (meant.as_state k) (option_map (λ (m : Node). m.column) o))) else []) at
-    ∙ elim (is_number c n.above) as (λ b. (if b then map brief (option_to_list (meant.as_state k n.column)) else []) ≡ map brief (option_to_list (if b then meant.as_state k n.column else None))) [ true ↦ refl | false ↦ refl ]
+    ap (λ o. if is_number c (option_and_then (λ (m : Node). m.above) o)
+    then map brief (option_to_list (option_and_then (meant.as_state k) (option_map (λ (m : Node). m.column) o))) else []) at
+    ∙ elim (is_number c n.above)
+    as (λ b. (if b then map brief (option_to_list (meant.as_state k n.column)) else []) ≡ map brief
+    (option_to_list (if b then meant.as_state k n.column else None))) [ true ↦ refl | false ↦ refl ]
 
-pub columns_step : (nodes : List Node) (c k : ℕ) (ys zs whole : List StateColumn) → k < length nodes → ys ++ columns_from nodes c k (drop k nodes) ≡ whole → zs ≡ ys ++ column_at nodes c k → zs ++ columns_from nodes c (k + 1) (drop (k + 1) nodes) ≡ whole
+pub columns_step : (nodes : List Node) (c k : ℕ) (ys zs whole : List StateColumn) → k < length nodes → ys ++ columns_from nodes c k (drop k nodes) ≡ whole →
+    zs ≡ ys ++ column_at nodes c k → zs ++ columns_from nodes c (k + 1) (drop (k + 1) nodes) ≡ whole
 columns_step nodes c k ys zs whole lt so_far more =
     let here = node_at nodes k lt in
     let rest = columns_from nodes c (k + 1) (drop (k + 1) nodes) in
@@ -51,11 +55,19 @@ columns_step nodes c k ys zs whole lt so_far more =
     ∙ so_far
 
 -- a state with a new object
-pub object_made : (schema : Schema) (s : State) (c parent next : ℕ) (objects copy all : List LiveObject) (cells old stored : List StoredCell) (under columns : List StateColumn) → under ≡ columns → columns ≡ columns_under schema.columns c → stored ≡ s.cells → old ≡ stored → cells ≡ old ++ map (new_cell s.next) under → all ≡ s.objects → copy ≡ all → objects ≡ copy ++ record { number = s.next; column = c; parent = Some parent } ∷ [] → record { objects = objects; cells = cells; next = next } ≡ made_with schema s c parent next
+pub object_made : (schema : Schema) (s : State) (c parent next : ℕ) (objects copy all : List LiveObject) (cells old stored : List StoredCell)
+    (under columns : List StateColumn) → under ≡ columns → columns ≡ columns_under schema.columns c → stored ≡ s.cells → old ≡ stored →
+    cells ≡ old ++ map (new_cell s.next) under → all ≡ s.objects → copy ≡ all →
+    objects ≡ copy ++ record { number = s.next; column = c; parent = Some parent } ∷ [] →
+    record { objects = objects; cells = cells; next = next } ≡ made_with schema s c parent next
 object_made schema s c parent next objects copy all cells old stored under columns same these sc os made so copied new =
     ap (λ (l : List LiveObject). let t : State = record { objects = l; cells = cells; next = next } in t)
     (new ∙ ap (λ (l : List LiveObject). l ++ record { number = s.next; column = c; parent = Some parent } ∷ []) (copied ∙ so))
-    ∙ ap (λ (l : List StoredCell). let t : State = record { objects = s.objects ++ record { number = s.next; column = c; parent = Some parent } ∷ []; cells = l; next = next } in t)
+    ∙ ap (λ (l : List StoredCell). let t : State = record {
+      objects = s.objects ++ record { number = s.next; column = c; parent = Some parent } ∷ [];
+      cells = l;
+      next = next;
+    } in t)
     (made
     ∙ ap (λ l. l ++ map (new_cell s.next) under) (os ∙ sc)
     ∙ ap (λ l. s.cells ++ map (new_cell s.next) l) (same ∙ these)
@@ -65,9 +77,12 @@ abbrev the_root : LiveObject
 the_root = record { number = 0; column = 0; parent = None }
 
 -- the state at the start
-pub root_alone : (schema : Schema) (objects none : List LiveObject) (cells empty : List StoredCell) (under columns : List StateColumn) → under ≡ columns → columns ≡ columns_under schema.columns 0 → empty ≡ [] → cells ≡ empty ++ map (new_cell 0) under → none ≡ [] → objects ≡ none ++ the_root ∷ [] → record { objects = objects; cells = cells; next = 1 } ≡ started schema
+pub root_alone : (schema : Schema) (objects none : List LiveObject) (cells empty : List StoredCell) (under columns : List StateColumn) → under ≡ columns →
+    columns ≡ columns_under schema.columns 0 → empty ≡ [] → cells ≡ empty ++ map (new_cell 0) under → none ≡ [] → objects ≡ none ++ the_root ∷ [] →
+    record { objects = objects; cells = cells; next = 1 } ≡ started schema
 root_alone schema objects none cells empty under columns same these no_cells made no_objects new =
-    ap (λ (l : List LiveObject). let t : State = record { objects = l; cells = cells; next = 1 } in t) (new ∙ ap (λ (l : List LiveObject). l ++ the_root ∷ []) no_objects)
+    ap (λ (l : List LiveObject). let t : State = record { objects = l; cells = cells; next = 1 } in
+    t) (new ∙ ap (λ (l : List LiveObject). l ++ the_root ∷ []) no_objects)
     ∙ ap (λ (l : List StoredCell). let t : State = record { objects = the_root ∷ []; cells = l; next = 1 } in t)
     (made
     ∙ ap (λ l. l ++ map (new_cell 0) under) no_cells
@@ -75,7 +90,9 @@ root_alone schema objects none cells empty under columns same these no_cells mad
     ∙ map_map (new_cell 0) brief (meant.state_columns schema 0))
 
 -- a state without an object and those below it
-pub object_gone : (s : State) (o : ℕ) (ns gone : List ℕ) (objects all : List LiveObject) (cells stored : List StoredCell) → ns ≡ gone → all ≡ s.objects → gone ≡ family all o → objects ≡ filter (λ x. not (has_number ns x.number)) all → stored ≡ s.cells → cells ≡ cells_left ns stored → record { objects = objects; cells = cells; next = s.next } ≡ without_object s o
+pub object_gone : (s : State) (o : ℕ) (ns gone : List ℕ) (objects all : List LiveObject) (cells stored : List StoredCell) → ns ≡ gone → all ≡ s.objects →
+    gone ≡ family all o → objects ≡ filter (λ x. not (has_number ns x.number)) all → stored ≡ s.cells → cells ≡ cells_left ns stored →
+    record { objects = objects; cells = cells; next = s.next } ≡ without_object s o
 object_gone s o ns gone objects all cells stored same so these left sc kept =
     let is : ns ≡ family s.objects o = same ∙ these ∙ ap (λ l. family l o) so in
     ap (λ (l : List LiveObject). let t : State = record { objects = l; cells = cells; next = s.next } in t)

@@ -63,7 +63,8 @@ module _ {X : Type 0} (f : X → Point → Result Point Refusal) where
   chain_one : (x : X) (p : Point) → chain f (x ∷ []) p ≡ f x p
   chain_one x p = next_last (f x p)
 
-  module _ (xs : List X) (i : ℕ) (x : X) (lt : i < length xs) (is : x ≡ get_or xs i x) (p : Point) (q : PlainPoint) (so_far : chain f (take i xs) p ≡ Ok (as_point q)) where
+  module _ (xs : List X) (i : ℕ) (x : X) (lt : i < length xs) (is : x ≡ get_or xs i x) (p : Point) (q : PlainPoint)
+      (so_far : chain f (take i xs) p ≡ Ok (as_point q)) where
     reached : chain f (take (i + 1) xs) p ≡ f x (as_point q)
     reached =
         ap (λ l. chain f l p) (take_more xs i x lt ∙ ap (λ y. take i xs ++ y ∷ []) (sym is))

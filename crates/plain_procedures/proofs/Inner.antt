@@ -5,7 +5,8 @@ use Rattle.std.proofs.Math.Path.{fun_ext}
 use Rattle.sheet_values.specs.declared.value.Value.{Value}
 use Rattle.sheet_columns.specs.declared.fault.Place.TheVariants as place
 use Rattle.sheet_columns.specs.declared.formula.Core.{Core}
-use Rattle.sheet_columns.specs.declared.statement.CoreStatement.{CoreStatement, If, For, Row_of-CoreStatement, end_of-CoreStatement, more_of-CoreStatement, items-the_row-CoreStatement, items_hidden-the_row-CoreStatement-0}
+use Rattle.sheet_columns.specs.declared.statement.CoreStatement.{CoreStatement, If, For, Row_of-CoreStatement, end_of-CoreStatement, more_of-CoreStatement}
+use Rattle.sheet_columns.specs.declared.statement.CoreStatement.{items-the_row-CoreStatement, items_hidden-the_row-CoreStatement-0}
 use Rattle.sheet_columns.specs.declared.statement.CoreStatement.TheBlock.{hidden-the_row-CoreStatement-0}
 use Rattle.sheet_columns.specs.declared.statement.Statements.{Statements}
 use Rattle.sheet_meaning.specs.declared.refusal.Refusal.{Refusal}
@@ -33,14 +34,16 @@ repeat s n e body p = from_run s (formula s p n e) p (λ set q. turns (run_state
 block_in : (xs : List CoreStatement) (s : Schema) → (λ (p : Point). run_block (hidden-the_row-CoreStatement-0 xs) s p) ≡ run_statements xs s
 block_in xs s = fun_ext (λ p. block_listed (hidden-the_row-CoreStatement-0 xs) s p ∙ ap (λ l. run_statements l s p) (items_hidden-the_row-CoreStatement-0 xs))
 
-run-If : (n : ℕ) (e : Core) (body otherwise : Statements) (s : Schema) (p : Point) → run_statement (If n e body otherwise) s p ≡ branch s n e body.list otherwise.list p
+run-If : (n : ℕ) (e : Core) (body otherwise : Statements) (s : Schema) (p : Point) →
+    run_statement (If n e body otherwise) s p ≡ branch s n e body.list otherwise.list p
 run-If n e body otherwise s p =
     ap
     (λ (g : Point → Result Point Refusal). from_run s (truth (place.Statement n) (formula s p n e)) p
     (λ holds q. ended q (if holds then g q else run_block (hidden-the_row-CoreStatement-0 otherwise.list) s q)))
     (block_in body.list s)
     ∙ ap
-    (λ (g : Point → Result Point Refusal). from_run s (truth (place.Statement n) (formula s p n e)) p (λ holds q. ended q (if holds then run_statements body.list s q else g q)))
+    (λ (g : Point → Result Point Refusal).
+    from_run s (truth (place.Statement n) (formula s p n e)) p (λ holds q. ended q (if holds then run_statements body.list s q else g q)))
     (block_in otherwise.list s)
 
 run-For : (n : ℕ) (e : Core) (body : Statements) (s : Schema) (p : Point) → run_statement (For n e body) s p ≡ repeat s n e body.list p
@@ -48,7 +51,9 @@ run-For n e body s p = ap (λ (g : Point → Result Point Refusal). from_run s (
 
 module _ (s : Schema) (n : ℕ) (e : Core) (x : CoreStatement) (p : Point) (q : PlainPoint) (r : Result PlainPoint Stop) where
   -- an `if` whose condition holds, and one whose condition doesn't
-  pub branch_then : (body otherwise : Statements) (holds : Bool) (read : List CoreStatement) → x ≡ If n e body otherwise → GoesOn s (truth (place.Statement n) (formula s p n e)) p (Ok (holds, q)) → holds ≡ true → read ≡ body.list → Ends r (ended (as_point q) (run_statements read s (as_point q))) → Ends r (run_statement x s p)
+  pub branch_then : (body otherwise : Statements) (holds : Bool) (read : List CoreStatement) → x ≡ If n e body otherwise →
+      GoesOn s (truth (place.Statement n) (formula s p n e)) p (Ok (holds, q)) → holds ≡ true → read ≡ body.list →
+      Ends r (ended (as_point q) (run_statements read s (as_point q))) → Ends r (run_statement x s p)
   branch_then body otherwise holds read is goes true_is same h =
       let f : Bool → Point → Result Point Refusal = λ b t. ended t (if b then run_statements body.list s t else run_statements otherwise.list s t) in
       same_end r
@@ -59,7 +64,9 @@ module _ (s : Schema) (n : ℕ) (e : Core) (x : CoreStatement) (p : Point) (q : 
       ∙ sym (ap (λ y. run_statement y s p) is))
       h
 
-  pub branch_else : (body otherwise : Statements) (holds : Bool) (read : List CoreStatement) → x ≡ If n e body otherwise → GoesOn s (truth (place.Statement n) (formula s p n e)) p (Ok (holds, q)) → holds ≡ false → read ≡ otherwise.list → Ends r (ended (as_point q) (run_statements read s (as_point q))) → Ends r (run_statement x s p)
+  pub branch_else : (body otherwise : Statements) (holds : Bool) (read : List CoreStatement) → x ≡ If n e body otherwise →
+      GoesOn s (truth (place.Statement n) (formula s p n e)) p (Ok (holds, q)) → holds ≡ false → read ≡ otherwise.list →
+      Ends r (ended (as_point q) (run_statements read s (as_point q))) → Ends r (run_statement x s p)
   branch_else body otherwise holds read is goes false_is same h =
       let f : Bool → Point → Result Point Refusal = λ b t. ended t (if b then run_statements body.list s t else run_statements otherwise.list s t) in
       same_end r
@@ -70,7 +77,8 @@ module _ (s : Schema) (n : ℕ) (e : Core) (x : CoreStatement) (p : Point) (q : 
       ∙ sym (ap (λ y. run_statement y s p) is))
       h
 
-  pub for_turns : (body : Statements) (set values : List Value) (read : List CoreStatement) → x ≡ For n e body → GoesOn s (formula s p n e) p (Ok (set, q)) → read ≡ body.list → values ≡ set → Ends r (turns (run_statements read s) values (as_point q)) → Ends r (run_statement x s p)
+  pub for_turns : (body : Statements) (set values : List Value) (read : List CoreStatement) → x ≡ For n e body → GoesOn s (formula s p n e) p (Ok (set, q)) →
+      read ≡ body.list → values ≡ set → Ends r (turns (run_statements read s) values (as_point q)) → Ends r (run_statement x s p)
   for_turns body set values read is goes same these h =
       let f : List Value → Point → Result Point Refusal = λ l t. turns (run_statements body.list s) l t in
       same_end r

@@ -13,11 +13,13 @@ use Rattle.sheet_meaning.specs.Changes.{without_object}
 use Rattle.sheet_meaning.specs.Statements.{Point, with_state, store, remove, is_present}
 use Rattle.plain_procedures.specs.Points.{stored_in}
 
-pub stored_within : (s : Schema) (how : Change) (o c : ℕ) (set : List Value) (p q : Point) (t : State) → t ≡ stored_in p.state how o c set → nat_lt max_values (stored_values t.cells) ≡ false → q ≡ with_state s p t → store s how o c set p ≡ Ok q
+pub stored_within : (s : Schema) (how : Change) (o c : ℕ) (set : List Value) (p q : Point) (t : State) → t ≡ stored_in p.state how o c set →
+    nat_lt max_values (stored_values t.cells) ≡ false → q ≡ with_state s p t → store s how o c set p ≡ Ok q
 stored_within s how o c set p q t is within end =
     sym (ap (λ (u : State). if nat_lt max_values (stored_values u.cells) then Err (Full which.Values max_values) else Ok (with_state s p u)) is)
     ∙ ap (λ b. if b then Err (Full which.Values max_values) else Ok (with_state s p t)) within
     ∙ ap Ok (sym end)
 
-pub removed : (s : Schema) (p q : Point) (o : ℕ) (t : State) → is_present p.state (Object o) ≡ true → t ≡ without_object p.state o → q ≡ with_state s p t → q ≡ remove s p o
+pub removed : (s : Schema) (p q : Point) (o : ℕ) (t : State) → is_present p.state (Object o) ≡ true → t ≡ without_object p.state o → q ≡ with_state s p t →
+    q ≡ remove s p o
 removed s p q o t found is end = end ∙ ap (with_state s p) is ∙ sym (ap (λ b. if b then with_state s p (without_object p.state o) else p) found)

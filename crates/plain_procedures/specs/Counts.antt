@@ -5,9 +5,11 @@ use Rattle.sheet_meaning.specs.declared.workbook.LiveObject.{LiveObject}
 use Rattle.plain_procedures.specs.declared.changes.StateColumn.{StateColumn}
 use Rattle.plain_procedures.specs.Columns.{columns_under}
 
+-- an object with each of these columns
 abbrev pub pairs_of : ℕ → List StateColumn → List (ℕ × ℕ)
 pairs_of o columns = map (λ (k : StateColumn). (o, k.number)) columns
 
+-- an object with each of these columns that hold one value
 abbrev pub one_pairs_of : ℕ → List StateColumn → List (ℕ × ℕ)
 one_pairs_of o columns = map (λ (k : StateColumn). (o, k.number)) (filter (λ (k : StateColumn). k.one) columns)
 

@@ -27,14 +27,19 @@ not_utf8 text n v d s =
 pub defines : (text : List ℕ) (d : Definition) → length text ≤ 262144 → IsUtf8 text → definition_read text ≡ Ok d.declarations → Defines text (Ok d)
 defines text d short encoded e = text_stands text d short (is_utf8-from_IsUtf8 text encoded) e
 
-placed_as : (text : List ℕ) (refusal : SyntaxRefusal) (line : ℕ) (r : DefinitionRefusal) → r ≡ Syntax refusal line → Defines text (Err (Syntax refusal line)) → Defines text (Err r)
+placed_as : (text : List ℕ) (refusal : SyntaxRefusal) (line : ℕ) (r : DefinitionRefusal) → r ≡ Syntax refusal line → Defines text (Err (Syntax refusal line)) →
+    Defines text (Err r)
 placed_as text refusal line r is h = subst (λ r. Defines text (Err r)) (sym is) h
 
-pub refused : (text : List ℕ) (refusal : SyntaxRefusal) (r : DefinitionRefusal) → length text ≤ 262144 → IsUtf8 text → Reads (λ (d : Definition). d.declarations) (Err refusal) (definition_read text) → Placed text refusal r → Defines text (Err r)
+pub refused : (text : List ℕ) (refusal : SyntaxRefusal) (r : DefinitionRefusal) → length text ≤ 262144 → IsUtf8 text →
+    Reads (λ (d : Definition). d.declarations) (Err refusal) (definition_read text) → Placed text refusal r → Defines text (Err r)
 refused text (BadToken k) r short encoded e is = placed_as text (BadToken k) (line_at text k) r is (text_none text (BadToken k) e, short, encoded, (e, refl))
-refused text (NumberTooWide k) r short encoded e is = placed_as text (NumberTooWide k) (line_at text k) r is (text_none text (NumberTooWide k) e, short, encoded, (e, refl))
-refused text (Expected k) r short encoded e is = placed_as text (Expected k) (line_at text k) r is (text_none text (Expected k) e, short, encoded, (e, refl, refused_at_the_first text k e))
-refused text (TooNested k) r short encoded e is = placed_as text (TooNested k) (line_at text k) r is (text_none text (TooNested k) e, short, encoded, (e, refl, refused_for_nesting text k e))
+refused text (NumberTooWide k) r short encoded e is =
+    placed_as text (NumberTooWide k) (line_at text k) r is (text_none text (NumberTooWide k) e, short, encoded, (e, refl))
+refused text (Expected k) r short encoded e is =
+    placed_as text (Expected k) (line_at text k) r is (text_none text (Expected k) e, short, encoded, (e, refl, refused_at_the_first text k e))
+refused text (TooNested k) r short encoded e is =
+    placed_as text (TooNested k) (line_at text k) r is (text_none text (TooNested k) e, short, encoded, (e, refl, refused_for_nesting text k e))
 refused text syntax.NoMemory r short encoded e is = subst (λ r. Defines text (Err r)) (sym is) tt
 
 -- the bytes up to an offset, or to the end

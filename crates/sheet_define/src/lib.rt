@@ -16,11 +16,6 @@ pub use sheet_define_data::{
     Column, Content, Declaration, Definition, Literal, Parameter, Part, Path, Procedure, Show,
     Statement, Target, TypeName, View,
 };
-pub use sheet_define_print::print_definition;
 pub use sheet_define_length::printed_length;
+pub use sheet_define_print::print_definition;
 pub use sheet_syntax::SyntaxRefusal;
-
-#[cfg(test)]
-mod samples;
-#[cfg(test)]
-mod tests;

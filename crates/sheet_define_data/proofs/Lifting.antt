@@ -6,7 +6,8 @@ use Rattle.sheet_syntax_trees.specs.declared.token.Token.{Token}
 use Rattle.sheet_syntax_trees.specs.declared.operators.Level.TheVariants as level
 use Rattle.sheet_syntax_trees.specs.declared.operators.Prefix.TheVariants as prefix
 use Rattle.sheet_define_data.specs.Grammar.{Limits, IsFormulaOf}
-use Rattle.sheet_syntax_trees.specs.Grammar.{Nonterminal, Form, Produces, expression, chain, negation, unary, postfix, atom, no_choice, an_operand, no_prefix, no_step}
+use Rattle.sheet_syntax_trees.specs.Grammar.{Nonterminal, Form, Produces, expression, chain, negation, unary, postfix, atom, no_choice, an_operand, no_prefix}
+use Rattle.sheet_syntax_trees.specs.Grammar.{no_step}
 
 module _ {ts : List Token} {f : Form} where
   pub postfix_of_atom : Produces atom ts f → Produces postfix ts f
@@ -68,7 +69,16 @@ abbrev pub limits : Limits
 limits = record { depth = 32; nest = 32 }
 
 -- what was derived stands at the front of the tokens
-pub a_formula : {n : Nonterminal} {ts us : List Token} (front : List Token) (f : Form) → Produces n front f → ts ≡ front ++ us → nat_le f.depth 32 ≡ true → nat_le f.nest 32 ≡ true
+pub a_formula : {n : Nonterminal} {ts us : List Token} (front : List Token) (f : Form) → Produces n front f → ts ≡ front ++ us → nat_le f.depth 32 ≡ true →
+    nat_le f.nest 32 ≡ true
     → IsFormulaOf limits n ts f.tree us
 a_formula front f d split shallow narrow =
-    record { front = front; depth = f.depth; nest = f.nest; split = split; produced = d; shallow = leb-true f.depth 32 shallow; narrow = leb-true f.nest 32 narrow }
+    record {
+      front = front;
+      depth = f.depth;
+      nest = f.nest;
+      split = split;
+      produced = d;
+      shallow = leb-true f.depth 32 shallow;
+      narrow = leb-true f.nest 32 narrow;
+    }

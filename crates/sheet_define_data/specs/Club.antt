@@ -14,6 +14,7 @@ use Rattle.sheet_define_data.specs.Grammar.{IsDefinition}
 use Rattle.sheet_define_data.specs.Printing.{definition_text}
 use Rattle.sheet_define_data.specs.Examples.{column}
 
+-- the definition of a club, as it is written
 abbrev pub club_text : List ℕ
 club_text =
     codes "callers Member\n"
@@ -87,6 +88,7 @@ club_text =
     ++ codes "  show seats = count(Course.Seat)\n"
     ++ codes "}\n"
 
+-- the definition that it stands for
 abbrev pub club : Definition
 club =
     record {
@@ -320,5 +322,6 @@ printed_club_text =
 abbrev pub ClubIsRead : Type 0
 ClubIsRead = IsDefinition club_text club
 
+-- the definition is printed so
 abbrev pub ClubIsPrinted : Type 0
 ClubIsPrinted = definition_text club ≡ printed_club_text

@@ -21,6 +21,7 @@ use Rattle.sheet_define_data.specs.Printing.{definition_text}
 abbrev pub column : ℕ → ℕ → List ℕ → Content → Declaration
 column depth line name held = declaration.Column (record { depth = depth; line = line; name = name; content = held })
 
+-- a definition of courses, as it is written
 abbrev pub courses_text : List ℕ
 courses_text =
     codes "callers Member\n"
@@ -49,6 +50,7 @@ courses_text =
     ++ codes "  }\n"
     ++ codes "}\n"
 
+-- the definition that it stands for
 abbrev pub courses : Definition
 courses =
     record {
@@ -90,6 +92,7 @@ courses =
           ∷ [];
     }
 
+-- a definition of a workshop, as it is written
 abbrev pub workshop_text : List ℕ
 workshop_text =
     codes "state open : truth one = true\n"
@@ -120,6 +123,7 @@ workshop_text =
     ++ codes "  show orders = sum(1 : o in Order) + (-least)\n"
     ++ codes "}\n"
 
+-- the definition that it stands for
 abbrev pub workshop : Definition
 workshop =
     record {

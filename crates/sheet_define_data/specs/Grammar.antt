@@ -31,9 +31,11 @@ use Rattle.sheet_define_data.specs.declared.statement.Statement.TheVariants as s
 abbrev pub IsWord : String → Token → Type 0
 IsWord word t = t.kind ≡ kind.Reserved (codes word)
 
+-- the token is that symbol
 abbrev pub IsSymbol : String → Token → Type 0
 IsSymbol symbol t = t.kind ≡ kind.Symbol (codes symbol)
 
+-- the token is that name
 abbrev pub IsName : List ℕ → Token → Type 0
 IsName name t = t.kind ≡ kind.Name name
 
@@ -62,6 +64,7 @@ pub record IsFormulaOf (l : Limits) (n : Nonterminal) (ts : List Token) (e : Tre
   pub shallow : depth ≤ l.depth
   pub narrow : nest ≤ l.nest
 
+-- a formula within the limits
 abbrev pub IsExpression : Limits → List Token → Tree → List Token → Type 0
 IsExpression l = IsFormulaOf l expression
 
@@ -71,6 +74,7 @@ pub data AreNames : List Token → List (List ℕ) → List Token → Type 0 whe
   more_names : (t d : Token) (name : List ℕ) (names : List (List ℕ)) (ts us : List Token) → IsName name t → IsSymbol "." d → AreNames ts names us
       → AreNames (t ∷ d ∷ ts) (name ∷ names) us
 
+-- a path begins in the line of its first name
 pub data IsPath : List Token → Path → List Token → Type 0 where
   a_path : (ts us : List Token) (names : List (List ℕ)) → AreNames ts names us → IsPath ts (record { line = line_of ts; names = names }) us
 

@@ -40,26 +40,31 @@ braced margin opening lines = line_at margin (opening ++ codes " {") ++ lines ++
 abbrev pub path_text : Path → List ℕ
 path_text p = join_by (λ name. name) (codes ".") p.names
 
+-- how a type is printed
 abbrev pub type_text : TypeName → List ℕ
 type_text type.Number = codes "number"
 type_text type.Text = codes "text"
 type_text type.Truth = codes "truth"
 type_text (type.Object p) = path_text p
 
+-- how a first value is printed
 abbrev pub literal_text : Literal → List ℕ
 literal_text (literal.Number line n) = signed_decimal n
 literal_text (literal.Negative line n) = codes "-" ++ signed_decimal n
 literal_text (literal.Text line content) = quoted content
 literal_text (literal.Truth line b) = truth_text b
 
+-- the word of a column of one value
 abbrev pub one_text : Bool → List ℕ
 one_text true = codes " one"
 one_text false = []
 
+-- a first value with its sign
 abbrev pub first_text : Option Literal → List ℕ
 first_text (Some v) = codes " = " ++ literal_text v
 first_text None = []
 
+-- the declared type of a formula column
 abbrev pub declared_text : Option TypeName → List ℕ
 declared_text (Some t) = codes " : " ++ type_text t
 declared_text None = []
@@ -79,12 +84,15 @@ content_text name (content.Formula t f) = codes "formula " ++ name ++ declared_t
 abbrev pub column_text : Column → List ℕ
 column_text c = line_at (margin c.depth) (content_text c.name c.content)
 
+-- how a parameter is printed
 abbrev pub parameter_text : Parameter → List ℕ
 parameter_text p = p.name ++ codes " : " ++ type_text p.values
 
+-- parameters in their parentheses
 abbrev pub parameters_text : List Parameter → List ℕ
 parameters_text ps = in_parentheses (join_by parameter_text (codes ", ") ps)
 
+-- who may call or see it
 abbrev pub allow_text : Option Tree → List ℕ
 allow_text (Some e) = codes " allow " ++ formula_text e
 allow_text None = []
@@ -94,6 +102,7 @@ abbrev pub object_text : Option Tree → List ℕ
 object_text (Some e) = operand e (formula_text e) ++ codes "."
 object_text None = []
 
+-- how a target is printed
 abbrev pub target_text : Target → List ℕ
 target_text t = object_text t.object ++ t.column
 
@@ -123,17 +132,21 @@ abbrev mutual
 abbrev pub header_text : List ℕ → List Parameter → Option Tree → List ℕ
 header_text name parameters allow = name ++ parameters_text parameters ++ allow_text allow
 
+-- the lines of a procedure
 abbrev pub procedure_text : Procedure → List ℕ
 procedure_text p = braced [] (codes "procedure " ++ header_text p.name p.parameters p.allow) (flat_map (λ x. statement_text x (inside [])) p.body)
 
+-- the line of a slot
 abbrev pub show_text : List ℕ → Show → List ℕ
 show_text margin s = line_at margin (codes "show " ++ s.name ++ codes " = " ++ formula_text s.shown)
 
+-- the lines of a slot or a table
 abbrev pub part_text : List ℕ → Part → List ℕ
 part_text margin (part.Show s) = show_text margin s
 part_text margin (part.Table line name variable source shows) =
     braced margin (codes "table " ++ name ++ codes " = " ++ variable ++ codes " in " ++ formula_text source) (flat_map (show_text (inside margin)) shows)
 
+-- the lines of a view
 abbrev pub view_text : View → List ℕ
 view_text v = braced [] (codes "view " ++ header_text v.name v.parameters v.allow) (flat_map (part_text (inside [])) v.parts)
 
@@ -157,6 +170,7 @@ open_inside depth content.Object = suc depth
 open_inside depth (content.State t one first) = depth
 open_inside depth (content.Formula t f) = depth
 
+-- how many object columns are open behind a declaration
 abbrev pub open_behind : Declaration → ℕ
 open_behind (declaration.Callers line path) = 0
 open_behind (declaration.Column c) = open_inside c.depth c.content

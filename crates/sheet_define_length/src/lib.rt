@@ -13,6 +13,3 @@ mod statement;
 mod words;
 
 pub use definition::printed_length;
-
-#[cfg(test)]
-mod tests;

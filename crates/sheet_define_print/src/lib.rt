@@ -8,6 +8,3 @@ mod line;
 mod statement;
 
 pub use definition::{append_definition, print_definition};
-
-#[cfg(test)]
-mod tests;

@@ -3,7 +3,8 @@ use Rattle.std.proofs.Common.{◌≡◌, [], ◌<◌, ◌≤◌, ◌+◌, ◌-�
 use Rattle.std.specs.Prelude.{codes}
 use Rattle.sheet_define_data.specs.Printing.{closings, line_at, margin}
 
-pub closing_next : (left depth : ℕ) → depth < left → closings (left - depth) depth ≡ line_at (margin (left - 1)) (codes "}") ++ closings ((left - 1) - depth) depth
+pub closing_next : (left depth : ℕ) → depth < left → closings (left - depth) depth ≡ line_at (margin (left - 1)) (codes "}") ++ closings ((left - 1) - depth)
+    depth
 closing_next left depth h =
     let count : left - depth ≡ suc ((left - 1) - depth) = omega arith in
     let last : depth + ((left - 1) - depth) ≡ left - 1 = omega arith in

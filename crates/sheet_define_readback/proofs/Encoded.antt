@@ -1,5 +1,6 @@
 -- What is printed of a formula is UTF-8.
-use Rattle.std.proofs.Common.{◌≡◌, ℕ, zero, suc, ◌<◌, ◌≤◌, ◌^◌, Bool, true, false, ◌&&◌, nat_lt, List, [], ◌∷◌, ◌++◌, length, get_or, IsUtf8, inl, inr, refl, sym, ap₂, subst, arith, append-nil, ltb-true, pos}
+use Rattle.std.proofs.Common.{◌≡◌, ℕ, zero, suc, ◌<◌, ◌≤◌, ◌^◌, Bool, true, false, ◌&&◌, nat_lt, List, [], ◌∷◌, ◌++◌, length, get_or, IsUtf8, inl, inr, refl}
+use Rattle.std.proofs.Common.{sym, ap₂, subst, arith, append-nil, ltb-true, pos}
 use Rattle.std.specs.Prelude.{codes, flat_map, nat_le, Some}
 use Rattle.std.specs.Fmt.{signed_decimal}
 use Rattle.std.specs.List.{join_by}
@@ -30,10 +31,14 @@ use Rattle.sheet_syntax_trees.specs.declared.tree.Tree.{Tree}
 use Rattle.sheet_syntax_trees.specs.declared.tree.Tree.TheVariants as tree
 use Rattle.sheet_syntax_trees.specs.Signs.{sign_of}
 use Rattle.sheet_syntax_trees.specs.Operators.{prefixed}
-use Rattle.sheet_syntax_trees.specs.Grammar.{Nonterminal, Form, Parts, Produces, AreParts, Gathers, a_choice, no_choice, an_operand, an_operation, a_prefix, no_prefix, no_step, a_child, an_up, a_leaf, in_parentheses, no_set, a_set, a_comprehension, a_sum, a_call, a_test, one_part, more_parts, all_values, chosen_values}
+use Rattle.sheet_syntax_trees.specs.Grammar.{Nonterminal, Form, Parts, Produces, AreParts, Gathers, a_choice, no_choice, an_operand, an_operation, a_prefix}
+use Rattle.sheet_syntax_trees.specs.Grammar.{no_prefix, no_step, a_child, an_up, a_leaf, in_parentheses, no_set, a_set, a_comprehension, a_sum, a_call, a_test}
+use Rattle.sheet_syntax_trees.specs.Grammar.{one_part, more_parts, all_values, chosen_values}
 use Rattle.sheet_syntax_trees.specs.Reading.{leaf, leaf_of, line_of}
-use Rattle.sheet_syntax_trees.specs.Printing.{escape, quoted, formula_text, is_enclosed, operand, operator_text, function_text, quantifier_text, opening_text, closing_text}
-use Rattle.sheet_syntax_print.proofs.Laws.{text-Child, text-Up, text-Negate, text-Not, text-Binary, text-If, text-Call, text-Gather, text-GatherWhere, text-Test, text-Set}
+use Rattle.sheet_syntax_trees.specs.Printing.{escape, quoted, formula_text, is_enclosed, operand, operator_text, function_text, quantifier_text, opening_text}
+use Rattle.sheet_syntax_trees.specs.Printing.{closing_text}
+use Rattle.sheet_syntax_print.proofs.Laws.{text-Child, text-Up, text-Negate, text-Not, text-Binary, text-If, text-Call, text-Gather, text-GatherWhere}
+use Rattle.sheet_syntax_print.proofs.Laws.{text-Test, text-Set}
 use Rattle.sheet_syntax_print.proofs.Back.{named_word}
 
 -- ---- ASCII
@@ -90,7 +95,8 @@ escape_high : (xs : List ℕ) → ((k : ℕ) → k < length xs → 128 ≤ get_o
 escape_high [] h = refl
 escape_high (x ∷ xs) h =
     let high : 128 ≤ x = h 0 (omega arith) in
-    ap₂ (λ (a b : List ℕ). a ++ b) (escape_plain x (λ e. omega arith) (λ e. omega arith) (λ e. omega arith)) (escape_high xs (λ k below. h (suc k) (omega arith)))
+    ap₂ (λ (a b : List ℕ). a ++ b) (escape_plain x (λ e. omega arith) (λ e. omega arith) (λ e. omega arith))
+    (escape_high xs (λ k below. h (suc k) (omega arith)))
 
 one_char : (c : ℕ) → scalar c ≡ true → IsUtf8 (flat_map escape (encode c))
 one_char c ok = elim (cases_lt c 128) [
@@ -184,7 +190,8 @@ leaf_encoded line (kind.Reserved word) e good h = leaf_sign line (sign_of (kind.
 leaf_encoded line (kind.Number z) e (n, is, fits) h =
     let same : tree.Number line z ≡ e = cc in
     subst (λ t. IsUtf8 (formula_text t)) same (subst (λ z. IsUtf8 (signed_decimal z)) (sym is) (number_encoded n fits))
-leaf_encoded line (kind.Text content) e good h = let same : tree.Text line content ≡ e = cc in subst (λ t. IsUtf8 (formula_text t)) same (quoted_encoded content good.0)
+leaf_encoded line (kind.Text content) e good h = let same : tree.Text line content ≡ e = cc in
+    subst (λ t. IsUtf8 (formula_text t)) same (quoted_encoded content good.0)
 leaf_encoded line (kind.Symbol s) e good h = leaf_sign line (sign_of (kind.Symbol s)) e h
 
 prefixed_encoded : (p : Prefix) (line : ℕ) (e : Tree) → IsUtf8 (formula_text e) → IsUtf8 (formula_text (prefixed p line e))
@@ -209,7 +216,8 @@ parts_text [] all = IsUtf8-nil
 parts_text (e ∷ es) all = join _ _ all.0 (others_encoded es all.1)
 
 set_encoded : (line : ℕ) (es : List Tree) → AllEncoded es → IsUtf8 (formula_text (tree.Set line es))
-set_encoded line es all = subst IsUtf8 (sym (text-Set line es)) (around (codes "{") (codes "}") _ (plain (codes "{") refl) (plain (codes "}") refl) (parts_text es all))
+set_encoded line es all =
+    subst IsUtf8 (sym (text-Set line es)) (around (codes "{") (codes "}") _ (plain (codes "{") refl) (plain (codes "}") refl) (parts_text es all))
 
 mutual
   pub encoded : (nt : Nonterminal) (ts : List Token) (f : Form) → Produces nt ts f → Good ts → IsUtf8 (formula_text f.tree)
@@ -217,20 +225,23 @@ mutual
       let (gc, g1) = good_front cs (t ∷ (xs ++ e ∷ ys)) good.1 in
       let (gx, g2) = good_front xs (e ∷ ys) g1.1 in
       subst IsUtf8 (sym (text-If i.line c.tree x.tree y.tree))
-      (join _ _ (join _ _ (join _ _ (join _ _ (join _ _ (plain (codes "if ") refl) (encoded _ cs c b gc)) (plain (codes " then ") refl)) (encoded _ xs x g gx)) (plain (codes " else ") refl)) (encoded _ ys y k g2.1))
+      (join _ _ (join _ _ (join _ _ (join _ _ (join _ _ (plain (codes "if ") refl) (encoded _ cs c b gc)) (plain (codes " then ") refl)) (encoded _ xs x g gx))
+      (plain (codes " else ") refl)) (encoded _ ys y k g2.1))
   encoded _ _ _ (no_choice ts f p) good = encoded _ ts f p good
   encoded _ _ _ (an_operand l ts f p) good = encoded _ ts f p good
   encoded _ _ _ (an_operation l op o xs ys x y p is q) good =
       let (gx, g1) = good_front xs (o ∷ ys) good in
       subst IsUtf8 (sym (text-Binary (line_of xs) op x.tree y.tree))
-      (join _ _ (join _ _ (join _ _ (join _ _ (operand_encoded x.tree _ (encoded _ xs x p gx)) (plain (codes " ") refl)) (operator_encoded op)) (plain (codes " ") refl)) (operand_encoded y.tree _ (encoded _ ys y q g1.1)))
+      (join _ _ (join _ _ (join _ _ (join _ _ (operand_encoded x.tree _ (encoded _ xs x p gx)) (plain (codes " ") refl)) (operator_encoded op))
+      (plain (codes " ") refl)) (operand_encoded y.tree _ (encoded _ ys y q g1.1)))
   encoded _ _ _ (a_prefix p t ts f is q) good = prefixed_encoded p t.line f.tree (encoded _ ts f q good.1)
   encoded _ _ _ (no_prefix p ts f q) good = encoded _ ts f q good
   encoded _ _ _ (no_step ts f p) good = encoded _ ts f p good
   encoded _ _ _ (a_child d t name ts f p a b) good =
       let (gf, g1) = good_front ts (d ∷ t ∷ []) good in
       let (word, free) = named_word t.kind name b g1.1.0 in
-      subst IsUtf8 (sym (text-Child (line_of ts) f.tree name)) (join _ _ (join _ _ (operand_encoded f.tree _ (encoded _ ts f p gf)) (plain (codes ".") refl)) (word_encoded name word))
+      subst IsUtf8 (sym (text-Child (line_of ts) f.tree name))
+      (join _ _ (join _ _ (operand_encoded f.tree _ (encoded _ ts f p gf)) (plain (codes ".") refl)) (word_encoded name word))
   encoded _ _ _ (an_up d t ts f p a b) good =
       let (gf, g1) = good_front ts (d ∷ t ∷ []) good in
       subst IsUtf8 (sym (text-Up (line_of ts) f.tree)) (join _ _ (operand_encoded f.tree _ (encoded _ ts f p gf)) (plain (codes ".up") refl))
@@ -242,7 +253,8 @@ mutual
   encoded _ _ _ (a_sum w o c ts g a b q d) good = let (gg, g1) = good_front ts (c ∷ []) good.1.1 in gathers_encoded w.line gathering.Sum ts g q gg
   encoded _ _ _ (a_call w o c h ts f a b q d) good =
       let (gf, g1) = good_front ts (c ∷ []) good.1.1 in
-      subst IsUtf8 (sym (text-Call w.line h f.tree)) (join _ _ (function_encoded h) (around (codes "(") (codes ")") _ (plain (codes "(") refl) (plain (codes ")") refl) (encoded _ ts f q gf)))
+      subst IsUtf8 (sym (text-Call w.line h f.tree))
+      (join _ _ (function_encoded h) (around (codes "(") (codes ")") _ (plain (codes "(") refl) (plain (codes ")") refl) (encoded _ ts f q gf)))
   encoded _ _ _ (a_test w o n i b c q name ss ps x p a1 a2 a3 a4 a5 a6 a7 a8) good =
       let inner = good.1.1 in
       let (word, free) = named_word n.kind name a3 inner.0 in
@@ -251,7 +263,8 @@ mutual
       subst IsUtf8 (sym (text-Test w.line q name x.tree p.tree))
       (join _ _ (quantifier_encoded q)
       (around (codes "(") (codes ")") _ (plain (codes "(") refl) (plain (codes ")") refl)
-      (join _ _ (join _ _ (join _ _ (join _ _ (word_encoded name word) (plain (codes " in ") refl)) (encoded _ ss x a5 gs)) (plain (codes " | ") refl)) (encoded _ ps p a7 gp))))
+      (join _ _ (join _ _ (join _ _ (join _ _ (word_encoded name word) (plain (codes " in ") refl)) (encoded _ ss x a5 gs)) (plain (codes " | ") refl))
+      (encoded _ ps p a7 gp))))
 
   parts_encoded : (ts : List Token) (p : Parts) → AreParts ts p → Good ts → AllEncoded p.trees
   parts_encoded _ _ (one_part ts f p) good = (encoded _ ts f p good, tt)
@@ -265,7 +278,8 @@ mutual
       let (word, free) = named_word n.kind name a3 g1.1.0 in
       subst IsUtf8 (sym (text-Gather line g f.tree name x.tree))
       (join _ _ (join _ _ (opening_encoded g)
-      (join _ _ (join _ _ (join _ _ (join _ _ (encoded _ fs f a1 gf) (plain (codes " : ") refl)) (word_encoded name word)) (plain (codes " in ") refl)) (encoded _ ss x a5 g1.1.1.1)))
+      (join _ _ (join _ _ (join _ _ (join _ _ (encoded _ fs f a1 gf) (plain (codes " : ") refl)) (word_encoded name word)) (plain (codes " in ") refl))
+      (encoded _ ss x a5 g1.1.1.1)))
       (closing_encoded g))
   gathers_encoded _ _ _ _ (chosen_values line g k n i b name fs ss ps f x p a1 a2 a3 a4 a5 a6 a7) good =
       let (gf, g1) = good_front fs (k ∷ n ∷ i ∷ (ss ++ b ∷ ps)) good in
@@ -273,6 +287,7 @@ mutual
       let (gs, g2) = good_front ss (b ∷ ps) g1.1.1.1 in
       subst IsUtf8 (sym (text-GatherWhere line g f.tree name x.tree p.tree))
       (join _ _ (join _ _ (join _ _ (join _ _ (opening_encoded g)
-      (join _ _ (join _ _ (join _ _ (join _ _ (encoded _ fs f a1 gf) (plain (codes " : ") refl)) (word_encoded name word)) (plain (codes " in ") refl)) (encoded _ ss x a5 gs)))
+      (join _ _ (join _ _ (join _ _ (join _ _ (encoded _ fs f a1 gf) (plain (codes " : ") refl)) (word_encoded name word)) (plain (codes " in ") refl))
+      (encoded _ ss x a5 gs)))
       (plain (codes " | ") refl)) (encoded _ ps p a7 g2.1))
       (closing_encoded g))

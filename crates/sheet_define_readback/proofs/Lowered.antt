@@ -14,14 +14,19 @@ use Rattle.sheet_syntax_trees.specs.declared.operators.Gathering.TheVariants as 
 use Rattle.sheet_syntax_trees.specs.declared.operators.Quantifier.{Quantifier}
 use Rattle.sheet_syntax_trees.specs.declared.operators.Prefix.{Prefix}
 use Rattle.sheet_syntax_trees.specs.declared.operators.Prefix.TheVariants as prefix
-use Rattle.sheet_syntax_trees.specs.declared.tree.Tree.{Tree, Number, Text, Truth, Root, This, Caller, Operator as OperatorWord, Name, Child', Up', Negate', Not', Binary', If', Set', Call', Gather', GatherWhere', Test', Row_of-Tree, end_of-Tree as end, more_of-Tree as more}
+use Rattle.sheet_syntax_trees.specs.declared.tree.Tree.{Tree, Number, Text, Truth, Root, This, Caller, Operator as OperatorWord, Name, Child', Up', Negate'}
+use Rattle.sheet_syntax_trees.specs.declared.tree.Tree.{Not', Binary', If', Set', Call', Gather', GatherWhere', Test', Row_of-Tree, end_of-Tree as end}
+use Rattle.sheet_syntax_trees.specs.declared.tree.Tree.{more_of-Tree as more}
 use Rattle.sheet_syntax_trees.specs.declared.tree.Tree.TheVariants as tree
 use Rattle.sheet_syntax_trees.specs.Signs.{sign_of}
 use Rattle.sheet_syntax_trees.specs.Operators.{prefixed}
-use Rattle.sheet_syntax_trees.specs.Grammar.{Nonterminal, expression, chain, postfix, atom, Form, form, Parts, Produces, AreParts, Gathers, a_choice, no_choice, an_operand, an_operation, a_prefix, no_prefix, no_step, a_child, an_up, a_leaf, in_parentheses, no_set, a_set, a_comprehension, a_sum, a_call, a_test, one_part, more_parts, all_values, chosen_values}
+use Rattle.sheet_syntax_trees.specs.Grammar.{Nonterminal, expression, chain, postfix, atom, Form, form, Parts, Produces, AreParts, Gathers, a_choice, no_choice}
+use Rattle.sheet_syntax_trees.specs.Grammar.{an_operand, an_operation, a_prefix, no_prefix, no_step, a_child, an_up, a_leaf, in_parentheses, no_set, a_set}
+use Rattle.sheet_syntax_trees.specs.Grammar.{a_comprehension, a_sum, a_call, a_test, one_part, more_parts, all_values, chosen_values}
 use Rattle.sheet_syntax_trees.specs.Reading.{leaf, leaf_of, line_of}
 use Rattle.sheet_syntax_trees.specs.Texts.{on_one_line, all_on_one_line}
-use Rattle.sheet_syntax_print.proofs.Laws.{line-Child, line-Up, line-Negate, line-Not, line-Binary, line-If, line-Call, line-Gather, line-GatherWhere, line-Test, line-Set}
+use Rattle.sheet_syntax_print.proofs.Laws.{line-Child, line-Up, line-Negate, line-Not, line-Binary, line-If, line-Call, line-Gather, line-GatherWhere}
+use Rattle.sheet_syntax_print.proofs.Laws.{line-Test, line-Set}
 use Rattle.sheet_define_readback.proofs.Moved.{down}
 
 -- the tokens stand for this form, but for the lines
@@ -42,10 +47,12 @@ record GathersPlaced (line : ℕ) (g : Gathering) (ts : List Token) (f : Form) :
 
 -- ---- forms of the same parts but for the lines
 
-same-If : (l m : ℕ) (c x y d v w : Tree) → on_one_line c ≡ on_one_line d → on_one_line x ≡ on_one_line v → on_one_line y ≡ on_one_line w → on_one_line (tree.If l c x y) ≡ on_one_line (tree.If m d v w)
+same-If : (l m : ℕ) (c x y d v w : Tree) → on_one_line c ≡ on_one_line d → on_one_line x ≡ on_one_line v → on_one_line y ≡ on_one_line w →
+    on_one_line (tree.If l c x y) ≡ on_one_line (tree.If m d v w)
 same-If l m c x y d v w a b e = let g = line-If l c x y in let h = line-If m d v w in cc
 
-same-Binary : (l m : ℕ) (op : Operator) (x y v w : Tree) → on_one_line x ≡ on_one_line v → on_one_line y ≡ on_one_line w → on_one_line (tree.Binary l op x y) ≡ on_one_line (tree.Binary m op v w)
+same-Binary : (l m : ℕ) (op : Operator) (x y v w : Tree) → on_one_line x ≡ on_one_line v → on_one_line y ≡ on_one_line w →
+    on_one_line (tree.Binary l op x y) ≡ on_one_line (tree.Binary m op v w)
 same-Binary l m op x y v w a b = let g = line-Binary l op x y in let h = line-Binary m op v w in cc
 
 same_prefixed : (p : Prefix) (l m : ℕ) (x v : Tree) → on_one_line x ≡ on_one_line v → on_one_line (prefixed p l x) ≡ on_one_line (prefixed p m v)
@@ -61,14 +68,17 @@ same-Up l m x v a = let g = line-Up l x in let h = line-Up m v in cc
 same-Call : (l m : ℕ) (f : Function) (x v : Tree) → on_one_line x ≡ on_one_line v → on_one_line (tree.Call l f x) ≡ on_one_line (tree.Call m f v)
 same-Call l m f x v a = let g = line-Call l f x in let h = line-Call m f v in cc
 
-same-Gather : (l m : ℕ) (g : Gathering) (name : List ℕ) (x y v w : Tree) → on_one_line x ≡ on_one_line v → on_one_line y ≡ on_one_line w → on_one_line (tree.Gather l g x name y) ≡ on_one_line (tree.Gather m g v name w)
+same-Gather : (l m : ℕ) (g : Gathering) (name : List ℕ) (x y v w : Tree) → on_one_line x ≡ on_one_line v → on_one_line y ≡ on_one_line w →
+    on_one_line (tree.Gather l g x name y) ≡ on_one_line (tree.Gather m g v name w)
 same-Gather l m g name x y v w a b = let e = line-Gather l g x name y in let h = line-Gather m g v name w in cc
 
-same-GatherWhere : (l m : ℕ) (g : Gathering) (name : List ℕ) (x y z v w u : Tree) → on_one_line x ≡ on_one_line v → on_one_line y ≡ on_one_line w → on_one_line z ≡ on_one_line u
+same-GatherWhere : (l m : ℕ) (g : Gathering) (name : List ℕ) (x y z v w u : Tree) → on_one_line x ≡ on_one_line v → on_one_line y ≡ on_one_line w →
+    on_one_line z ≡ on_one_line u
     → on_one_line (tree.GatherWhere l g x name y z) ≡ on_one_line (tree.GatherWhere m g v name w u)
 same-GatherWhere l m g name x y z v w u a b c = let e = line-GatherWhere l g x name y z in let h = line-GatherWhere m g v name w u in cc
 
-same-Test : (l m : ℕ) (q : Quantifier) (name : List ℕ) (x y v w : Tree) → on_one_line x ≡ on_one_line v → on_one_line y ≡ on_one_line w → on_one_line (tree.Test l q name x y) ≡ on_one_line (tree.Test m q name v w)
+same-Test : (l m : ℕ) (q : Quantifier) (name : List ℕ) (x y v w : Tree) → on_one_line x ≡ on_one_line v → on_one_line y ≡ on_one_line w →
+    on_one_line (tree.Test l q name x y) ≡ on_one_line (tree.Test m q name v w)
 same-Test l m q name x y v w a b = let e = line-Test l q name x y in let h = line-Test m q name v w in cc
 
 same-Set : (l m : ℕ) (xs ys : List Tree) → map on_one_line xs ≡ map on_one_line ys → on_one_line (tree.Set l xs) ≡ on_one_line (tree.Set m ys)
@@ -91,7 +101,8 @@ mutual
   twice (Negate' _ _ (more e end)) = line-Negate 1 (on_one_line e) ∙ ap (tree.Negate 1) (twice e)
   twice (Not' _ _ (more e end)) = line-Not 1 (on_one_line e) ∙ ap (tree.Not 1) (twice e)
   twice (Binary' _ op _ (more a end) _ (more b end)) = let e = line-Binary 1 op (on_one_line a) (on_one_line b) in let g = twice a in let h = twice b in cc
-  twice (If' _ _ (more c end) _ (more a end) _ (more b end)) = let e = line-If 1 (on_one_line c) (on_one_line a) (on_one_line b) in let f = twice c in let g = twice a in let h = twice b in cc
+  twice (If' _ _ (more c end) _ (more a end) _ (more b end)) = let e = line-If 1 (on_one_line c) (on_one_line a) (on_one_line b) in let f = twice c in
+      let g = twice a in let h = twice b in cc
   twice (Set' _ _ parts) = line-Set 1 (all_on_one_line parts) ∙ ap (tree.Set 1) (all_twice parts)
   twice (Call' _ f _ (more e end)) = line-Call 1 f (on_one_line e) ∙ ap (tree.Call 1 f) (twice e)
   twice (Gather' _ g _ (more f end) x _ (more s end)) = let e = line-Gather 1 g (on_one_line f) x (on_one_line s) in let p = twice f in let q = twice s in cc
@@ -126,7 +137,8 @@ leaf_lower l m (kind.Symbol s) e h = leaf_sign l m (sign_of (kind.Symbol s)) e h
 two_pieces : (n : ℕ) (xs : List Token) (o : Token) (ys : List Token) → map (down n) xs ++ down n o ∷ map (down n) ys ≡ map (down n) (xs ++ o ∷ ys)
 two_pieces n xs o ys = sym (map-append (down n) xs (o ∷ ys))
 
-three_pieces : (n : ℕ) (xs : List Token) (o : Token) (ys : List Token) (p : Token) (zs : List Token) → map (down n) xs ++ down n o ∷ (map (down n) ys ++ down n p ∷ map (down n) zs) ≡ map (down n) (xs ++ o ∷ (ys ++ p ∷ zs))
+three_pieces : (n : ℕ) (xs : List Token) (o : Token) (ys : List Token) (p : Token) (zs : List Token) →
+    map (down n) xs ++ down n o ∷ (map (down n) ys ++ down n p ∷ map (down n) zs) ≡ map (down n) (xs ++ o ∷ (ys ++ p ∷ zs))
 three_pieces n xs o ys p zs = ap (λ l. map (down n) xs ++ down n o ∷ l) (two_pieces n ys p zs) ∙ two_pieces n xs o (ys ++ p ∷ zs)
 
 -- ---- all forms
@@ -137,10 +149,12 @@ mutual
       let p = lower n _ cs c b in
       let q = lower n _ xs x g in
       let r = lower n _ ys y k in
-      subst (λ l. Placed expression (down n i ∷ l) (form (tree.If i.line c.tree x.tree y.tree) (max c.depth (max x.depth y.depth) + 1) (max c.nest (max x.nest y.nest)))) (three_pieces n cs t xs e ys)
+      subst (λ l. Placed expression (down n i ∷ l)
+      (form (tree.If i.line c.tree x.tree y.tree) (max c.depth (max x.depth y.depth) + 1) (max c.nest (max x.nest y.nest)))) (three_pieces n cs t xs e ys)
       (record {
         tree = tree.If (i.line + n) p.tree q.tree r.tree;
-        produced = a_choice (down n i) (down n t) (down n e) (map (down n) cs) (map (down n) xs) (map (down n) ys) (form p.tree c.depth c.nest) (form q.tree x.depth x.nest) (form r.tree y.depth y.nest) a p.produced d q.produced h r.produced;
+        produced = a_choice (down n i) (down n t) (down n e) (map (down n) cs) (map (down n) xs) (map (down n) ys) (form p.tree c.depth c.nest)
+            (form q.tree x.depth x.nest) (form r.tree y.depth y.nest) a p.produced d q.produced h r.produced;
         same = same-If (i.line + n) i.line _ _ _ _ _ _ p.same q.same r.same;
       })
   lower n _ _ _ (no_choice ts f p) = let q = lower n _ ts f p in record { tree = q.tree; produced = no_choice _ _ q.produced; same = q.same }
@@ -151,12 +165,17 @@ mutual
       subst (λ l'. Placed (chain l) l' (form (tree.Binary (line_of xs) op x.tree y.tree) (max x.depth y.depth + 1) (max x.nest y.nest))) (two_pieces n xs o ys)
       (record {
         tree = tree.Binary (line_of (map (down n) xs)) op p.tree q.tree;
-        produced = an_operation l op (down n o) (map (down n) xs) (map (down n) ys) (form p.tree x.depth x.nest) (form q.tree y.depth y.nest) p.produced is q.produced;
+        produced = an_operation l op (down n o) (map (down n) xs) (map (down n) ys) (form p.tree x.depth x.nest) (form q.tree y.depth y.nest) p.produced is
+            q.produced;
         same = same-Binary (line_of (map (down n) xs)) (line_of xs) _ _ _ _ _ p.same q.same;
       })
   lower n _ _ _ (a_prefix p t ts f is a) =
       let q = lower n _ ts f a in
-      record { tree = prefixed p (t.line + n) q.tree; produced = a_prefix p (down n t) (map (down n) ts) (form q.tree f.depth f.nest) is q.produced; same = same_prefixed p (t.line + n) t.line _ _ q.same }
+      record {
+        tree = prefixed p (t.line + n) q.tree;
+        produced = a_prefix p (down n t) (map (down n) ts) (form q.tree f.depth f.nest) is q.produced;
+        same = same_prefixed p (t.line + n) t.line _ _ q.same;
+      }
   lower n _ _ _ (no_prefix p ts f a) = let q = lower n _ ts f a in record { tree = q.tree; produced = no_prefix p _ _ q.produced; same = q.same }
   lower n _ _ _ (no_step ts f p) = let q = lower n _ ts f p in record { tree = q.tree; produced = no_step _ _ q.produced; same = q.same }
   lower n _ _ _ (a_child d t name ts f a b is) =
@@ -182,7 +201,8 @@ mutual
       let q = lower n _ ts f b in
       subst (λ l. Placed atom (down n o ∷ l) (form f.tree f.depth (f.nest + 1))) (two_pieces n ts c [])
       (record { tree = q.tree; produced = in_parentheses (down n o) (down n c) (map (down n) ts) (form q.tree f.depth f.nest) a q.produced d; same = q.same })
-  lower n _ _ _ (no_set o c a b) = record { tree = tree.Set (o.line + n) []; produced = no_set (down n o) (down n c) a b; same = same-Set (o.line + n) o.line [] [] refl }
+  lower n _ _ _ (no_set o c a b) =
+      record { tree = tree.Set (o.line + n) []; produced = no_set (down n o) (down n c) a b; same = same-Set (o.line + n) o.line [] [] refl }
   lower n _ _ _ (a_set o c ts p a b d) =
       let q = lower_parts n ts p b in
       subst (λ l. Placed atom (down n o ∷ l) (form (tree.Set o.line p.trees) (p.depth + 1) (p.nest + 1))) (two_pieces n ts c [])
@@ -198,7 +218,11 @@ mutual
   lower n _ _ _ (a_sum w o c ts g a b d e) =
       let q = lower_gathers n w.line (w.line + n) gathering.Sum ts g d in
       subst (λ l. Placed atom (down n w ∷ down n o ∷ l) (form g.tree (g.depth + 1) (g.nest + 1))) (two_pieces n ts c [])
-      (record { tree = q.tree; produced = a_sum (down n w) (down n o) (down n c) (map (down n) ts) (form q.tree g.depth g.nest) a b q.gathers e; same = q.same })
+      (record {
+        tree = q.tree;
+        produced = a_sum (down n w) (down n o) (down n c) (map (down n) ts) (form q.tree g.depth g.nest) a b q.gathers e;
+        same = q.same;
+      })
   lower n _ _ _ (a_call w o c h ts f a b d e) =
       let q = lower n _ ts f d in
       subst (λ l. Placed atom (down n w ∷ down n o ∷ l) (form (tree.Call w.line h f.tree) (f.depth + 1) (f.nest + 1))) (two_pieces n ts c [])
@@ -210,10 +234,12 @@ mutual
   lower n _ _ _ (a_test w o v i b c k name ss ps x p a1 a2 a3 a4 a5 a6 a7 a8) =
       let q = lower n _ ss x a5 in
       let r = lower n _ ps p a7 in
-      subst (λ l. Placed atom (down n w ∷ down n o ∷ down n v ∷ down n i ∷ l) (form (tree.Test w.line k name x.tree p.tree) (max x.depth p.depth + 1) (max x.nest p.nest + 1))) (three_pieces n ss b ps c [])
+      subst (λ l. Placed atom (down n w ∷ down n o ∷ down n v ∷ down n i ∷ l)
+      (form (tree.Test w.line k name x.tree p.tree) (max x.depth p.depth + 1) (max x.nest p.nest + 1))) (three_pieces n ss b ps c [])
       (record {
         tree = tree.Test (w.line + n) k name q.tree r.tree;
-        produced = a_test (down n w) (down n o) (down n v) (down n i) (down n b) (down n c) k name (map (down n) ss) (map (down n) ps) (form q.tree x.depth x.nest) (form r.tree p.depth p.nest) a1 a2 a3 a4 q.produced a6 r.produced a8;
+        produced = a_test (down n w) (down n o) (down n v) (down n i) (down n b) (down n c) k name (map (down n) ss) (map (down n) ps)
+            (form q.tree x.depth x.nest) (form r.tree p.depth p.nest) a1 a2 a3 a4 q.produced a6 r.produced a8;
         same = same-Test (w.line + n) w.line _ _ _ _ _ _ q.same r.same;
       })
 
@@ -227,8 +253,10 @@ mutual
       subst (λ l. PartsPlaced l (record { trees = p.trees ++ y.tree ∷ []; depth = max p.depth y.depth; nest = max p.nest y.nest })) (two_pieces n xs k ys)
       (record {
         trees = q.trees ++ r.tree ∷ [];
-        are = more_parts (down n k) (map (down n) xs) (map (down n) ys) (record { trees = q.trees; depth = p.depth; nest = p.nest }) (form r.tree y.depth y.nest) q.are is r.produced;
-        same = map-append on_one_line q.trees (r.tree ∷ []) ∙ ap (λ l. l ++ on_one_line r.tree ∷ []) q.same ∙ ap (λ e. map on_one_line p.trees ++ e ∷ []) r.same ∙ sym (map-append on_one_line p.trees (y.tree ∷ []));
+        are = more_parts (down n k) (map (down n) xs) (map (down n) ys) (record { trees = q.trees; depth = p.depth; nest = p.nest })
+            (form r.tree y.depth y.nest) q.are is r.produced;
+        same = map-append on_one_line q.trees (r.tree ∷ []) ∙ ap (λ l. l ++ on_one_line r.tree ∷ []) q.same ∙ ap (λ e. map on_one_line p.trees ++ e ∷ []) r.same
+            ∙ sym (map-append on_one_line p.trees (y.tree ∷ []));
       })
 
   lower_gathers : (n l m : ℕ) (g : Gathering) (ts : List Token) (f : Form) → Gathers l g ts f → GathersPlaced m g (map (down n) ts) f
@@ -238,18 +266,22 @@ mutual
       subst (λ t. GathersPlaced m g t (form (tree.Gather l g f.tree name x.tree) (max f.depth x.depth) (max f.nest x.nest))) (two_pieces n fs k (v ∷ i ∷ ss))
       (record {
         tree = tree.Gather m g q.tree name r.tree;
-        gathers = all_values m g (down n k) (down n v) (down n i) name (map (down n) fs) (map (down n) ss) (form q.tree f.depth f.nest) (form r.tree x.depth x.nest) q.produced a2 a3 a4 r.produced;
+        gathers = all_values m g (down n k) (down n v) (down n i) name (map (down n) fs) (map (down n) ss) (form q.tree f.depth f.nest)
+            (form r.tree x.depth x.nest) q.produced a2 a3 a4 r.produced;
         same = same-Gather m l _ _ _ _ _ _ q.same r.same;
       })
   lower_gathers n _ m _ _ _ (chosen_values l g k v i b name fs ss ps f x p a1 a2 a3 a4 a5 a6 a7) =
       let q = lower n _ fs f a1 in
       let r = lower n _ ss x a5 in
       let s = lower n _ ps p a7 in
-      let split : map (down n) fs ++ down n k ∷ down n v ∷ down n i ∷ (map (down n) ss ++ down n b ∷ map (down n) ps) ≡ map (down n) (fs ++ k ∷ v ∷ i ∷ (ss ++ b ∷ ps)) =
+      let split : map (down n) fs ++ down n k ∷ down n v ∷ down n i ∷ (map (down n) ss ++ down n b ∷ map (down n) ps) ≡ map (down n)
+      (fs ++ k ∷ v ∷ i ∷ (ss ++ b ∷ ps)) =
       ap (λ t. map (down n) fs ++ down n k ∷ down n v ∷ down n i ∷ t) (two_pieces n ss b ps) ∙ two_pieces n fs k (v ∷ i ∷ (ss ++ b ∷ ps)) in
-      subst (λ t. GathersPlaced m g t (form (tree.GatherWhere l g f.tree name x.tree p.tree) (max f.depth (max x.depth p.depth)) (max f.nest (max x.nest p.nest)))) split
+      subst (λ t. GathersPlaced m g t
+      (form (tree.GatherWhere l g f.tree name x.tree p.tree) (max f.depth (max x.depth p.depth)) (max f.nest (max x.nest p.nest)))) split
       (record {
         tree = tree.GatherWhere m g q.tree name r.tree s.tree;
-        gathers = chosen_values m g (down n k) (down n v) (down n i) (down n b) name (map (down n) fs) (map (down n) ss) (map (down n) ps) (form q.tree f.depth f.nest) (form r.tree x.depth x.nest) (form s.tree p.depth p.nest) q.produced a2 a3 a4 r.produced a6 s.produced;
+        gathers = chosen_values m g (down n k) (down n v) (down n i) (down n b) name (map (down n) fs) (map (down n) ss) (map (down n) ps)
+            (form q.tree f.depth f.nest) (form r.tree x.depth x.nest) (form s.tree p.depth p.nest) q.produced a2 a3 a4 r.produced a6 s.produced;
         same = same-GatherWhere m l _ _ _ _ _ _ _ _ q.same r.same s.same;
       })

@@ -28,7 +28,8 @@ record Piece (k : TokenKind) (text rest : List ℕ) (at above : ℕ) : Type 0 wh
   start : ℕ
   end : ℕ
   to : ℕ
-  told : tokens_from (text ++ rest) at (above + 1) 0 ≡ with_tokens (record { kind = k; start = start; end = end; line = above + 1 } ∷ []) (tokens_from rest to (above + 1) 0)
+  told : tokens_from (text ++ rest) at (above + 1) 0 ≡ with_tokens (record { kind = k; start = start; end = end; line = above + 1 } ∷ [])
+      (tokens_from rest to (above + 1) 0)
 
 piece : (k : TokenKind) (text : List ℕ) → are_ascii text ≡ true → ((rest : List ℕ) (at above : ℕ) → Piece k text rest at above) → Written Any (One k) text
 piece k text ascii f =
@@ -167,7 +168,8 @@ close_brace_then_piece = piece _ (codes "} ") refl (λ rest at above. record { s
 
 -- ---- one token, before a rest that ends it
 
-one_token : (k : TokenKind) (text : List ℕ) → IsUtf8 text → ((rest : List ℕ) (at : ℕ) → Ends rest → (end : ℕ) × Seen text rest at (token k at end ∷ [])) → Written Ends (One k) text
+one_token : (k : TokenKind) (text : List ℕ) → IsUtf8 text → ((rest : List ℕ) (at : ℕ) → Ends rest → (end : ℕ) × Seen text rest at (token k at end ∷ [])) →
+    Written Ends (One k) text
 one_token k text u see =
     record {
       encoded = u;
@@ -183,17 +185,20 @@ fits_small : (n : ℕ) → nat_le n 9223372036854775807 ≡ true → n < 2 ^ 64
 fits_small n h = grind (arith, common_steps)
 
 pub number_written : (n : ℕ) → nat_le n 9223372036854775807 ≡ true → Written Ends (One (kind.Number (pos n))) (signed_decimal (pos n))
-number_written n fits = one_token (kind.Number (pos n)) (signed_decimal (pos n)) (number_encoded n fits) (λ rest at ends. number_seen n rest at fits (fits_small n fits) ends)
+number_written n fits =
+    one_token (kind.Number (pos n)) (signed_decimal (pos n)) (number_encoded n fits) (λ rest at ends. number_seen n rest at fits (fits_small n fits) ends)
 
 pub text_written : (content : List ℕ) → is_short_text content ≡ true → TextBytes content → Written Ends (One (kind.Text content)) (quoted content)
-text_written content short bytes = one_token (kind.Text content) (quoted content) (quoted_encoded content short) (λ rest at ends. text_seen content rest at short bytes)
+text_written content short bytes =
+    one_token (kind.Text content) (quoted content) (quoted_encoded content short) (λ rest at ends. text_seen content rest at short bytes)
 
 reserved_written : (word : List ℕ) → IsWord word → is_reserved word ≡ true → Written Ends (One (kind.Reserved word)) word
 reserved_written word w h = one_token (kind.Reserved word) word (word_encoded word w) (λ rest at ends. reserved_seen word rest at w h ends)
 
 pub number_word : Written Ends (One (kind.Reserved (codes "number"))) (codes "number")
 unfolding is_reserved
-number_word = reserved_written (codes "number") (a_word (codes "number") 110 (codes "umber") refl refl (refl, (refl, (refl, (refl, (refl, (refl, tt)))))) refl) refl
+number_word = reserved_written (codes "number") (a_word (codes "number") 110 (codes "umber") refl refl (refl, (refl, (refl, (refl, (refl, (refl, tt)))))) refl)
+    refl
 
 pub text_word : Written Ends (One (kind.Reserved (codes "text"))) (codes "text")
 unfolding is_reserved
@@ -231,7 +236,8 @@ after_space {C} {Q} {a} w =
 
 -- ---- formulas
 
-formula_written : (l : Limits) → l.depth ≤ l.nest → (nt : Nonterminal) (text : List ℕ) (e : Tree) (depth : ℕ) → depth ≤ l.depth → Back nt text (on_one_line e) depth depth → IsUtf8 text
+formula_written : (l : Limits) → l.depth ≤ l.nest → (nt : Nonterminal) (text : List ℕ) (e : Tree) (depth : ℕ) → depth ≤ l.depth →
+    Back nt text (on_one_line e) depth depth → IsUtf8 text
     → Written Ends (Read (IsFormulaOf l nt) on_one_line e) text
 formula_written l fits nt text e depth shallow b u =
     record {
@@ -245,19 +251,29 @@ formula_written l fits nt text e depth shallow b u =
             lies = lowered text rest at above r.ts r.seen;
             reads = λ us. record {
               thing = q.tree;
-              stands = record { front = map (down above) r.ts; depth = depth; nest = r.nest; split = refl; produced = q.produced; shallow = shallow; narrow = omega (arith, n, shallow, fits) };
+              stands = record {
+                front = map (down above) r.ts;
+                depth = depth;
+                nest = r.nest;
+                split = refl;
+                produced = q.produced;
+                shallow = shallow;
+                narrow = omega (arith, n, shallow, fits);
+              };
               same = q.same ∙ twice e;
             };
           };
     }
 
-pub expression_back : (l : Limits) → l.depth ≤ l.nest → (ts us : List Token) (e : Tree) → IsFormulaOf l expression ts e us → Good ts → Good us × Written Ends (Read (IsFormulaOf l expression) on_one_line e) (formula_text e)
+pub expression_back : (l : Limits) → l.depth ≤ l.nest → (ts us : List Token) (e : Tree) → IsFormulaOf l expression ts e us → Good ts →
+    Good us × Written Ends (Read (IsFormulaOf l expression) on_one_line e) (formula_text e)
 expression_back l fits ts us e x good =
     let (gf, gu) = good_front x.front us (subst Good x.split good) in
     let b = back expression x.front (form e x.depth x.nest) x.produced gf in
     (gu, formula_written l fits expression (formula_text e) e x.depth x.shallow b.whole (encoded expression x.front (form e x.depth x.nest) x.produced gf))
 
-pub operand_back : (l : Limits) → l.depth ≤ l.nest → (ts us : List Token) (e : Tree) → IsFormulaOf l postfix ts e us → Good ts → Good us × Written Ends (Read (IsFormulaOf l postfix) on_one_line e) (operand e (formula_text e))
+pub operand_back : (l : Limits) → l.depth ≤ l.nest → (ts us : List Token) (e : Tree) → IsFormulaOf l postfix ts e us → Good ts →
+    Good us × Written Ends (Read (IsFormulaOf l postfix) on_one_line e) (operand e (formula_text e))
 operand_back l fits ts us e x good =
     let (gf, gu) = good_front x.front us (subst Good x.split good) in
     let b = back postfix x.front (form e x.depth x.nest) x.produced gf in

@@ -13,7 +13,8 @@ use Rattle.sheet_define_data.specs.declared.definition.View.{View}
 use Rattle.sheet_define_data.specs.declared.definition.Declaration.{Declaration}
 use Rattle.sheet_define_data.specs.declared.definition.Declaration.TheVariants as declaration
 use Rattle.sheet_define_data.specs.declared.definition.Definition.{Definition}
-use Rattle.sheet_define_data.specs.Grammar.{Limits, IsPath, IsColumn, IsProcedure, IsView, IsDeclaration, the_callers, a_column, one_procedure, one_view, AreDeclarations, no_declarations, more_declarations, IsDefinition}
+use Rattle.sheet_define_data.specs.Grammar.{Limits, IsPath, IsColumn, IsProcedure, IsView, IsDeclaration, the_callers, a_column, one_procedure, one_view}
+use Rattle.sheet_define_data.specs.Grammar.{AreDeclarations, no_declarations, more_declarations, IsDefinition}
 use Rattle.sheet_define_data.specs.Printing.{declarations_text, definition_text, printed_size}
 use Rattle.sheet_define_readback.specs.Lines.{path_on_one_line, procedure_on_one_line, view_on_one_line, declaration_on_one_line}
 use Rattle.sheet_define_readback.specs.Back.{StandsButForLines}
@@ -26,18 +27,28 @@ use Rattle.sheet_define_readback.proofs.Written.{Written, Any, Then, then, One, 
 -- ---- declarations
 
 module _ (l : Limits) (b : ℕ) where
-  callers_made : (n : ℕ) (p : Path) (ts us : List Token) → Then (One (kind.Reserved (codes "callers"))) (Read IsPath path_on_one_line p) ts us → Read (IsDeclaration l b) (map declaration_on_one_line) (declaration.Callers n p ∷ []) ts us
+  callers_made : (n : ℕ) (p : Path) (ts us : List Token) → Then (One (kind.Reserved (codes "callers"))) (Read IsPath path_on_one_line p) ts us →
+      Read (IsDeclaration l b) (map declaration_on_one_line) (declaration.Callers n p ∷ []) ts us
   callers_made n p _ us (then _ _ _ (one w ts iw) r) =
-      record { thing = declaration.Callers w.line r.thing ∷ []; stands = the_callers w ts us r.thing iw r.stands; same = ap (λ q. declaration.Callers 1 q ∷ []) r.same }
+      record {
+        thing = declaration.Callers w.line r.thing ∷ [];
+        stands = the_callers w ts us r.thing iw r.stands;
+        same = ap (λ q. declaration.Callers 1 q ∷ []) r.same;
+      }
 
-  column_made : (ds : List Declaration) (ts us : List Token) → Read (IsColumn l 0) (map declaration_on_one_line) ds ts us → Read (IsDeclaration l b) (map declaration_on_one_line) ds ts us
+  column_made : (ds : List Declaration) (ts us : List Token) → Read (IsColumn l 0) (map declaration_on_one_line) ds ts us →
+      Read (IsDeclaration l b) (map declaration_on_one_line) ds ts us
   column_made ds ts us r = record { thing = r.thing; stands = a_column ts us r.thing r.stands; same = r.same }
 
-  procedure_made : (p : Procedure) (ts us : List Token) → Read (IsProcedure l b) procedure_on_one_line p ts us → Read (IsDeclaration l b) (map declaration_on_one_line) (declaration.Procedure p ∷ []) ts us
-  procedure_made p ts us r = record { thing = declaration.Procedure r.thing ∷ []; stands = one_procedure ts us r.thing r.stands; same = ap (λ q. declaration.Procedure q ∷ []) r.same }
+  procedure_made : (p : Procedure) (ts us : List Token) → Read (IsProcedure l b) procedure_on_one_line p ts us →
+      Read (IsDeclaration l b) (map declaration_on_one_line) (declaration.Procedure p ∷ []) ts us
+  procedure_made p ts us r =
+      record { thing = declaration.Procedure r.thing ∷ []; stands = one_procedure ts us r.thing r.stands; same = ap (λ q. declaration.Procedure q ∷ []) r.same }
 
-  view_made : (v : View) (ts us : List Token) → Read (IsView l) view_on_one_line v ts us → Read (IsDeclaration l b) (map declaration_on_one_line) (declaration.View v ∷ []) ts us
-  view_made v ts us r = record { thing = declaration.View r.thing ∷ []; stands = one_view ts us r.thing r.stands; same = ap (λ q. declaration.View q ∷ []) r.same }
+  view_made : (v : View) (ts us : List Token) → Read (IsView l) view_on_one_line v ts us →
+      Read (IsDeclaration l b) (map declaration_on_one_line) (declaration.View v ∷ []) ts us
+  view_made v ts us r =
+      record { thing = declaration.View r.thing ∷ []; stands = one_view ts us r.thing r.stands; same = ap (λ q. declaration.View q ∷ []) r.same }
 
 -- a declaration, with the text that it has where no braces are open
 record DeclarationBack (l : Limits) (b : ℕ) (ds : List Declaration) : Type 0 where
@@ -46,10 +57,18 @@ record DeclarationBack (l : Limits) (b : ℕ) (ds : List Declaration) : Type 0 w
   falls : (es : List Declaration) → Falls 0 (ds ++ es)
   shown : (es : List Declaration) → Falls 0 es → declarations_text 0 (ds ++ es) ≡ text ++ declarations_text 0 es
 
-declaration_back : (l : Limits) → l.depth ≤ l.nest → (b : ℕ) (ts us : List Token) (ds : List Declaration) → IsDeclaration l b ts ds us → Good ts → Good us × DeclarationBack l b ds
+declaration_back : (l : Limits) → l.depth ≤ l.nest → (b : ℕ) (ts us : List Token) (ds : List Declaration) → IsDeclaration l b ts ds us → Good ts →
+    Good us × DeclarationBack l b ds
 declaration_back l fits b _ _ _ (the_callers w ts rest p iw a) good =
-    let (good1, r) = path_back ts rest p a good.1 in
-    (good1, record { text = _; written = line [] no_margin (made (callers_made l b w.line p) (behind callers_piece r)); falls = λ es. omega arith; shown = λ es falls. refl })
+    let (good1, r) = path_back ts rest p a good.1 in (
+      good1,
+      record {
+        text = _;
+        written = line [] no_margin (made (callers_made l b w.line p) (behind callers_piece r));
+        falls = λ es. omega arith;
+        shown = λ es falls. refl;
+      },
+    )
 declaration_back l fits b _ _ _ (a_column ts rest ds a) good =
     let (good1, r) = column_back l fits 0 ts rest ds a good in
     (good1, record { text = r.text; written = made (column_made l b ds) r.written; falls = r.falls; shown = λ es falls. r.shown 0 es (omega arith) falls })
@@ -95,7 +114,8 @@ one_before l b ds es d w =
             told = p.lies.told ∙ ap (with_tokens p.ts) r.told;
             back = q.thing ++ r.back;
             stands = more_declarations _ _ _ _ q.stands r.stands;
-            same = map-append declaration_on_one_line q.thing r.back ∙ ap (λ x. x ++ map declaration_on_one_line r.back) q.same ∙ ap (λ x. map declaration_on_one_line ds ++ x) r.same ∙ sym (map-append declaration_on_one_line ds es);
+            same = map-append declaration_on_one_line q.thing r.back ∙ ap (λ x. x ++ map declaration_on_one_line r.back) q.same
+                ∙ ap (λ x. map declaration_on_one_line ds ++ x) r.same ∙ sym (map-append declaration_on_one_line ds es);
           });
     }
 

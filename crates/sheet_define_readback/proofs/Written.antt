@@ -28,9 +28,15 @@ with_both : (xs ys : List Token) (r : Told) → with_tokens (xs ++ ys) r ≡ wit
 with_both xs ys (Ok more) = ap Ok (append_assoc xs ys more)
 with_both xs ys (Err e) = refl
 
-both_lie : (a b rest : List ℕ) (at above : ℕ) (xs ys : List Token) (s : Lies a (b ++ rest) at above xs) → Lies b rest s.to s.below ys → Lies (a ++ b) rest at above (xs ++ ys)
+both_lie : (a b rest : List ℕ) (at above : ℕ) (xs ys : List Token) (s : Lies a (b ++ rest) at above xs) → Lies b rest s.to s.below ys →
+    Lies (a ++ b) rest at above (xs ++ ys)
 both_lie a b rest at above xs ys s t =
-    record { to = t.to; below = t.below; told = ap (λ l. tokens_from l at (above + 1) 0) (append_assoc a b rest) ∙ s.told ∙ ap (with_tokens xs) t.told ∙ sym (with_both xs ys (tokens_from rest t.to (t.below + 1) 0)) }
+    record {
+      to = t.to;
+      below = t.below;
+      told = ap (λ l. tokens_from l at (above + 1) 0) (append_assoc a b rest) ∙ s.told ∙ ap (with_tokens xs) t.told
+          ∙ sym (with_both xs ys (tokens_from rest t.to (t.below + 1) 0));
+    }
 
 -- what lies in the first line lies in any
 pub lowered : (text rest : List ℕ) (at above : ℕ) (ts : List Token) → Seen text rest at ts → Lies text rest at above (map (down above) ts)
@@ -39,7 +45,8 @@ lowered text rest at above ts s =
     record {
       to = s.to;
       below = above;
-      told = ap (λ l. tokens_from (text ++ rest) at l 0) e ∙ tokens_moved (text ++ rest) at 1 0 above ∙ ap (moved above) s.told ∙ moved_with above ts (tokens_from rest s.to 1 0)
+      told = ap (λ l. tokens_from (text ++ rest) at l 0) e ∙ tokens_moved (text ++ rest) at 1 0 above ∙ ap (moved above) s.told
+          ∙ moved_with above ts (tokens_from rest s.to 1 0)
           ∙ ap (with_tokens (map (down above) ts)) (sym (tokens_moved rest s.to 1 0 above) ∙ ap (λ l. tokens_from rest s.to l 0) (sym e));
     }
 
@@ -74,7 +81,8 @@ pub record Read {A : Type 0} (P : List Token → A → List Token → Type 0) (p
   pub stands : P ts thing us
   pub same : plain thing ≡ plain x
 
-pub both : {C D : List ℕ → Type 0} {Q R : List Token → List Token → Type 0} {a b : List ℕ} → Written C Q a → Written D R b → ((rest : List ℕ) → D rest → C (b ++ rest)) → Written D (Then Q R) (a ++ b)
+pub both : {C D : List ℕ → Type 0} {Q R : List Token → List Token → Type 0} {a b : List ℕ} → Written C Q a → Written D R b →
+    ((rest : List ℕ) → D rest → C (b ++ rest)) → Written D (Then Q R) (a ++ b)
 both {C} {D} {Q} {R} {a} {b} w v ends =
     record {
       encoded = IsUtf8-append a b w.encoded v.encoded;
@@ -93,12 +101,20 @@ pub behind : {D : List ℕ → Type 0} {Q R : List Token → List Token → Type
 behind w v = both w v (λ rest d. tt)
 
 -- the same text with another thing
-pub made : {C : List ℕ → Type 0} {Q R : List Token → List Token → Type 0} {a : List ℕ} → ((ts us : List Token) → Q ts us → R ts us) → Written C Q a → Written C R a
-made f w = record { encoded = w.encoded; printed = λ at above rest c. let p = w.printed at above rest c in record { ts = p.ts; lies = p.lies; reads = λ us. f _ _ (p.reads us) } }
+pub made : {C : List ℕ → Type 0} {Q R : List Token → List Token → Type 0} {a : List ℕ} → ((ts us : List Token) → Q ts us → R ts us) → Written C Q a →
+    Written C R a
+made f w = record {
+  encoded = w.encoded;
+  printed = λ at above rest c. let p = w.printed at above rest c in
+      record { ts = p.ts; lies = p.lies; reads = λ us. f _ _ (p.reads us) };
+}
 
 -- nothing at all
 pub nothing : {C : List ℕ → Type 0} {Q : List Token → List Token → Type 0} → ((ts : List Token) → Q ts ts) → Written C Q []
-nothing f = record { encoded = IsUtf8-nil; printed = λ at above rest c. record { ts = []; lies = record { to = at; below = above; told = sym (with_none _) }; reads = f } }
+nothing f = record {
+  encoded = IsUtf8-nil;
+  printed = λ at above rest c. record { ts = []; lies = record { to = at; below = above; told = sym (with_none _) }; reads = f };
+}
 
 -- the rest may be any where less is asked of it
 pub sure : {C : List ℕ → Type 0} {Q : List Token → List Token → Type 0} {a : List ℕ} → Written Any Q a → Written C Q a
@@ -135,7 +151,11 @@ line {Q} {a} margin m w =
           let whole = both_lie (margin ++ a) (codes "\n") rest at above p.ts [] front end in
           record {
             ts = p.ts;
-            lies = record { to = whole.to; below = whole.below; told = whole.told ∙ ap (λ l. with_tokens l (tokens_from rest whole.to (whole.below + 1) 0)) (append-nil p.ts) };
+            lies = record {
+              to = whole.to;
+              below = whole.below;
+              told = whole.told ∙ ap (λ l. with_tokens l (tokens_from rest whole.to (whole.below + 1) 0)) (append-nil p.ts);
+            };
             reads = p.reads;
           };
     }

@@ -1,5 +1,6 @@
 -- The marks with which something begins, and what the small readers answer where their tokens stand.
-use Rattle.std.proofs.Common.{◌≡◌, ℕ, zero, suc, ◌+◌, ◌-◌, ◌<◌, ◌≤◌, List, [], ◌∷◌, ◌++◌, length, true, false, Some, None, Ok, Err, refl, sym, ap, ◌∙◌, subst, arith}
+use Rattle.std.proofs.Common.{◌≡◌, ℕ, zero, suc, ◌+◌, ◌-◌, ◌<◌, ◌≤◌, List, [], ◌∷◌, ◌++◌, length, true, false, Some, None, Ok, Err, refl, sym, ap, ◌∙◌, subst}
+use Rattle.std.proofs.Common.{arith}
 use Rattle.std.specs.Prelude.{Bool, Option, if◌then◌else◌}
 use Rattle.sheet_syntax_trees.specs.declared.token.Token.{Token}
 use Rattle.sheet_syntax_trees.specs.declared.token.TokenKind.{TokenKind}
@@ -193,12 +194,14 @@ after_other t ts m n is other = test_none (same_mark (mark_of t.kind) n) ts (oth
 
 pub after_name_token : (t : Token) (ts : List Token) (name : List ℕ) (n : Mark) → t.kind ≡ kind.Name name → 0 < mark_rank n → after n (t ∷ ts) ≡ None
 after_name_token t ts name n is some =
-    test_none (same_mark (mark_of t.kind) n) ts (ap (λ k. same_mark (mark_of k) n) is ∙ other_mark mark.Other n (λ e. let none : 0 ≡ mark_rank n = ap mark_rank e in omega arith))
+    test_none (same_mark (mark_of t.kind) n) ts (ap (λ k. same_mark (mark_of k) n) is
+    ∙ other_mark mark.Other n (λ e. let none : 0 ≡ mark_rank n = ap mark_rank e in omega arith))
 
 -- what is clear begins with no token of a mark that isn't
 pub clear_other : (m : Mark) → clear m ≡ false → 0 < mark_rank m → (ts : List Token) → clear_at ts ≡ true → same_mark (mark_at ts) m ≡ false
 clear_other m unlike some [] e = other_mark mark.Other m (λ same. let none : 0 ≡ mark_rank m = ap mark_rank same in omega arith)
-clear_other m unlike some (t ∷ ts) e = other_mark (mark_of t.kind) m (λ same. let wrong : true ≡ false = sym e ∙ ap clear same ∙ unlike in let unlike : ⊥ = cc in unlike)
+clear_other m unlike some (t ∷ ts) e =
+    other_mark (mark_of t.kind) m (λ same. let wrong : true ≡ false = sym e ∙ ap clear same ∙ unlike in let unlike : ⊥ = cc in unlike)
 
 pub clear_after : (m : Mark) → clear m ≡ false → 0 < mark_rank m → (ts : List Token) → clear_at ts ≡ true → after m ts ≡ None
 clear_after m unlike some [] e = refl
@@ -206,7 +209,8 @@ clear_after m unlike some (t ∷ ts) e = test_none (same_mark (mark_of t.kind) m
 
 -- ---- what is read where it stands
 
-pub then_given : {A B : Type 0} (r : Answer A) (x : A) (k : A → Answer B) (y : Answer B) → ◌≡◌ {A = Answer A} r (Ok x) → ◌≡◌ {A = Answer B} (k x) y → ◌≡◌ {A = Answer B} (r >>= k) y
+pub then_given : {A B : Type 0} (r : Answer A) (x : A) (k : A → Answer B) (y : Answer B) → ◌≡◌ {A = Answer A} r (Ok x) → ◌≡◌ {A = Answer B} (k x) y →
+    ◌≡◌ {A = Answer B} (r >>= k) y
 then_given r x k y e h = ap (λ r. r >>= k) e ∙ h
 
 pub after_given : (m : Mark) (t : Token) (ts : List Token) → t.kind ≡ spelling m → after m (t ∷ ts) ≡ Some ts

@@ -1,5 +1,6 @@
 -- What stands at the front of tokens by the productions takes some of them.
-use Rattle.std.proofs.Common.{◌≡◌, ℕ, ℤ, zero, suc, ◌+◌, ◌-◌, ◌<◌, ◌≤◌, List, [], ◌∷◌, ◌++◌, length, true, false, Some, None, Ok, Err, refl, sym, ap, ◌∙◌, subst, arith, append_assoc}
+use Rattle.std.proofs.Common.{◌≡◌, ℕ, ℤ, zero, suc, ◌+◌, ◌-◌, ◌<◌, ◌≤◌, List, [], ◌∷◌, ◌++◌, length, true, false, Some, None, Ok, Err, refl, sym, ap, ◌∙◌}
+use Rattle.std.proofs.Common.{subst, arith, append_assoc}
 use Rattle.std.specs.Prelude.{Bool, Option, if◌then◌else◌}
 use Rattle.sheet_syntax_trees.specs.declared.token.Token.{Token}
 use Rattle.sheet_syntax_trees.specs.declared.token.TokenKind.{TokenKind}
@@ -30,7 +31,15 @@ use Rattle.sheet_define_data.specs.declared.definition.Declaration.TheVariants a
 use Rattle.sheet_define_data.specs.declared.statement.Target.{Target}
 use Rattle.sheet_define_data.specs.declared.statement.Statement.{Statement}
 use Rattle.sheet_define_data.specs.declared.statement.Statement.TheVariants as statement
-use Rattle.sheet_define_data.specs.Grammar.{Limits, IsFormulaOf, IsExpression, Maybe, left_out, stated, Repeated, none, one_more, AreNames, one_name, more_names, IsPath, a_path, IsType, numbers, texts, truths, objects, IsLiteral, a_number, a_negative_number, a_text, a_true, a_false, IsOne, any_count, just_one, IsFirst, a_first, IsDeclared, a_declared, IsAllow, an_allow, IsColumn, an_object_column, a_state_column, a_formula_column, AreColumns, no_columns, more_columns, IsParameter, a_parameter, AreParameters, one_parameter, more_parameters, InParentheses, no_parameters, some_parameters, IsTarget, of_root, of_object, IsStatement, a_let, an_assignment, an_add, a_remove, a_new, a_delete, a_check, a_reply, an_if, an_if_else, a_for, AreStatements, no_statements, more_statements, IsBlock, a_block, IsProcedure, a_procedure, IsShow, a_show, IsPart, one_show, a_table, IsView, a_view, IsDeclaration, the_callers, a_column, one_procedure, one_view, AreDeclarations, no_declarations, more_declarations}
+use Rattle.sheet_define_data.specs.Grammar.{Limits, IsFormulaOf, IsExpression, Maybe, left_out, stated, Repeated, none, one_more, AreNames, one_name}
+use Rattle.sheet_define_data.specs.Grammar.{more_names, IsPath, a_path, IsType, numbers, texts, truths, objects, IsLiteral, a_number, a_negative_number, a_text}
+use Rattle.sheet_define_data.specs.Grammar.{a_true, a_false, IsOne, any_count, just_one, IsFirst, a_first, IsDeclared, a_declared, IsAllow, an_allow, IsColumn}
+use Rattle.sheet_define_data.specs.Grammar.{an_object_column, a_state_column, a_formula_column, AreColumns, no_columns, more_columns, IsParameter, a_parameter}
+use Rattle.sheet_define_data.specs.Grammar.{AreParameters, one_parameter, more_parameters, InParentheses, no_parameters, some_parameters, IsTarget, of_root}
+use Rattle.sheet_define_data.specs.Grammar.{of_object, IsStatement, a_let, an_assignment, an_add, a_remove, a_new, a_delete, a_check, a_reply, an_if}
+use Rattle.sheet_define_data.specs.Grammar.{an_if_else, a_for, AreStatements, no_statements, more_statements, IsBlock, a_block, IsProcedure, a_procedure}
+use Rattle.sheet_define_data.specs.Grammar.{IsShow, a_show, IsPart, one_show, a_table, IsView, a_view, IsDeclaration, the_callers, a_column, one_procedure}
+use Rattle.sheet_define_data.specs.Grammar.{one_view, AreDeclarations, no_declarations, more_declarations}
 use Rattle.std.proofs.Common.{length-append}
 use Rattle.sheet_syntax_trees.specs.Grammar.{Nonterminal}
 
@@ -78,7 +87,8 @@ parameter_short _ _ _ (a_parameter n k name ts us t named isk typed) = let h = t
 
 listed_short : (ts us : List Token) (ps : List Parameter) → AreParameters ts ps us → length us ≤ length ts
 listed_short _ _ _ (one_parameter ts us p is) = parameter_short ts us p is
-listed_short _ _ _ (more_parameters ts us rest k p ps is isk more) = let a = parameter_short ts (k ∷ us) p is in let b = listed_short us rest ps more in omega arith
+listed_short _ _ _ (more_parameters ts us rest k p ps is isk more) = let a = parameter_short ts (k ∷ us) p is in let b = listed_short us rest ps more in
+    omega arith
 
 parameters_short : (ts us : List Token) (ps : List Parameter) → InParentheses ts ps us → length us ≤ length ts
 parameters_short _ _ _ (no_parameters o c ts iso isc) = omega arith
@@ -91,21 +101,27 @@ target_short l _ _ _ (of_object d n name ts us e f isd named) = let h = formula_
 mutual
   pub statement_short : (l : Limits) (b : ℕ) (ts us : List Token) (x : Statement) → IsStatement l b ts x us → length us < length ts
   statement_short l b _ _ _ (a_let _ w n e name ts rest v a1 a2 a3 f) = let h = formula_short l expression ts rest v f in omega arith
-  statement_short l b _ _ _ (an_assignment _ w e ts us rest t v a1 g a2 f) = let h = formula_short l expression us rest v f in let k = target_short l ts (e ∷ us) t g in omega arith
-  statement_short l b _ _ _ (an_add _ w o ts us rest t v a1 f a2 g) = let h = formula_short l expression ts (o ∷ us) v f in let k = target_short l us rest t g in omega arith
-  statement_short l b _ _ _ (a_remove _ w o ts us rest t v a1 f a2 g) = let h = formula_short l expression ts (o ∷ us) v f in let k = target_short l us rest t g in omega arith
+  statement_short l b _ _ _ (an_assignment _ w e ts us rest t v a1 g a2 f) = let h = formula_short l expression us rest v f in
+      let k = target_short l ts (e ∷ us) t g in omega arith
+  statement_short l b _ _ _ (an_add _ w o ts us rest t v a1 f a2 g) = let h = formula_short l expression ts (o ∷ us) v f in
+      let k = target_short l us rest t g in omega arith
+  statement_short l b _ _ _ (a_remove _ w o ts us rest t v a1 f a2 g) = let h = formula_short l expression ts (o ∷ us) v f in
+      let k = target_short l us rest t g in omega arith
   statement_short l b _ _ _ (a_new _ w n e name ts rest t a1 a2 a3 g) = let k = target_short l ts rest t g in omega arith
   statement_short l b _ _ _ (a_delete _ w ts rest v a1 f) = let h = formula_short l expression ts rest v f in omega arith
   statement_short l b _ _ _ (a_check _ w e m message ts rest p a1 f a2 a3) = let h = formula_short l expression ts (e ∷ m ∷ rest) p f in omega arith
   statement_short l b _ _ _ (a_reply _ w ts rest v a1 f) = let h = formula_short l expression ts rest v f in omega arith
-  statement_short l b _ _ _ (an_if _ w ts us rest p body a1 f k) = let h = formula_short l expression ts us p f in let m = block_short l b us rest body k in omega arith
+  statement_short l b _ _ _ (an_if _ w ts us rest p body a1 f k) = let h = formula_short l expression ts us p f in let m = block_short l b us rest body k in
+      omega arith
   statement_short l b _ _ _ (an_if_else _ w e ts us vs rest p body other a1 f k a2 k2) =
       let h = formula_short l expression ts us p f in let m = block_short l b us (e ∷ vs) body k in let m2 = block_short l b vs rest other k2 in omega arith
-  statement_short l b _ _ _ (a_for _ w n i name ts us rest v body a1 a2 a3 f k) = let h = formula_short l expression ts us v f in let m = block_short l b us rest body k in omega arith
+  statement_short l b _ _ _ (a_for _ w n i name ts us rest v body a1 a2 a3 f k) = let h = formula_short l expression ts us v f in
+      let m = block_short l b us rest body k in omega arith
 
   statements_short : (l : Limits) (b : ℕ) (ts us : List Token) (xs : List Statement) → AreStatements l b ts xs us → length us ≤ length ts
   statements_short l b _ _ _ (no_statements _ ts) = omega arith
-  statements_short l b _ _ _ (more_statements _ ts us rest x xs p q) = let h = statement_short l b ts us x p in let k = statements_short l b us rest xs q in omega arith
+  statements_short l b _ _ _ (more_statements _ ts us rest x xs p q) = let h = statement_short l b ts us x p in let k = statements_short l b us rest xs q in
+      omega arith
 
   block_short : (l : Limits) (b : ℕ) (ts us : List Token) (xs : List Statement) → IsBlock l b ts xs us → length us ≤ length ts
   block_short l _ _ _ _ (a_block b o c ts rest xs a1 q a2) = let k = statements_short l b ts (c ∷ rest) xs q in omega arith
@@ -113,7 +129,8 @@ mutual
 pub show_short : (l : Limits) (ts us : List Token) (x : Show) → IsShow l ts x us → length us < length ts
 show_short l _ _ _ (a_show w n e name ts rest f a1 a2 a3 g) = let h = formula_short l expression ts rest f g in omega arith
 
-repeated_short : {A : Type 0} (P : List Token → A → List Token → Type 0) → ((ts us : List Token) (x : A) → P ts x us → length us < length ts) → (ts us : List Token) (xs : List A) → Repeated P ts xs us → length us ≤ length ts
+repeated_short : {A : Type 0} (P : List Token → A → List Token → Type 0) → ((ts us : List Token) (x : A) → P ts x us → length us < length ts) →
+    (ts us : List Token) (xs : List A) → Repeated P ts xs us → length us ≤ length ts
 repeated_short P short _ _ _ (none ts) = omega arith
 repeated_short P short _ _ _ (one_more ts us vs x xs p q) = let h = short ts us x p in let k = repeated_short P short us vs xs q in omega arith
 
@@ -127,7 +144,8 @@ mutual
   column_short l _ _ _ _ (an_object_column k w n o c name ts us ds a1 a2 a3 q a4) = let h = columns_short l (suc k) ts (c ∷ us) ds q in omega arith
   column_short l _ _ _ _ (a_state_column k w n c name ts us vs rest t one first a1 a2 a3 p q r) =
       let h = type_short ts us t p in let i = one_short us vs one q in let j = first_short vs rest first r in omega arith
-  column_short l _ _ _ _ (a_formula_column k w n e name ts us rest t f a1 a2 p a3 q) = let h = declared_short ts (e ∷ us) t p in let i = formula_short l expression us rest f q in omega arith
+  column_short l _ _ _ _ (a_formula_column k w n e name ts us rest t f a1 a2 p a3 q) = let h = declared_short ts (e ∷ us) t p in
+      let i = formula_short l expression us rest f q in omega arith
 
   columns_short : (l : Limits) (k : ℕ) (ts us : List Token) (ds : List Declaration) → AreColumns l k ts ds us → length us ≤ length ts
   columns_short l _ _ _ _ (no_columns k ts) = omega arith
@@ -139,7 +157,8 @@ procedure_short l b _ _ _ (a_procedure w n name ps ts bs rest parameters allow b
 
 view_short : (l : Limits) (ts us : List Token) (v : View) → IsView l ts v us → length us < length ts
 view_short l _ _ _ (a_view w n o c name ps ts us rest parameters allow parts a1 a2 p q a3 r a4) =
-    let h = parameters_short ps ts parameters p in let i = allow_short l ts (o ∷ us) allow q in let j = repeated_short (IsPart l) (part_short l) us (c ∷ rest) parts r in omega arith
+    let h = parameters_short ps ts parameters p in let i = allow_short l ts (o ∷ us) allow q in
+    let j = repeated_short (IsPart l) (part_short l) us (c ∷ rest) parts r in omega arith
 
 pub declaration_short : (l : Limits) (b : ℕ) (ts us : List Token) (ds : List Declaration) → IsDeclaration l b ts ds us → length us < length ts
 declaration_short l b _ _ _ (the_callers w ts rest p a1 q) = let h = path_short ts rest p q in omega arith

@@ -11,7 +11,10 @@ use Rattle.sheet_define_reading.specs.declared.mark.Mark.TheVariants as mark
 use Rattle.sheet_define_reading.specs.Marks.{words, symbols, mark_among, mark_of, mark_rank, same_mark}
 
 abbrev marks : List Mark
-marks = mark.Other ∷ mark.Add ∷ mark.Allow ∷ mark.Callers ∷ mark.Check ∷ mark.Delete ∷ mark.Else ∷ mark.False ∷ mark.For ∷ mark.Formula ∷ mark.From ∷ mark.If ∷ mark.In ∷ mark.Let ∷ mark.New ∷ mark.Number ∷ mark.Object ∷ mark.One ∷ mark.Procedure ∷ mark.Remove ∷ mark.Reply ∷ mark.Set ∷ mark.Show ∷ mark.State ∷ mark.Table ∷ mark.Text ∷ mark.To ∷ mark.True ∷ mark.Truth ∷ mark.Up ∷ mark.View ∷ mark.Open ∷ mark.Close ∷ mark.OpenBrace ∷ mark.CloseBrace ∷ mark.Colon ∷ mark.Comma ∷ mark.Dot ∷ mark.Equals ∷ mark.Minus ∷ []
+marks = mark.Other ∷ mark.Add ∷ mark.Allow ∷ mark.Callers ∷ mark.Check ∷ mark.Delete ∷ mark.Else ∷ mark.False ∷ mark.For ∷ mark.Formula ∷ mark.From ∷ mark.If ∷
+    mark.In ∷ mark.Let ∷ mark.New ∷ mark.Number ∷ mark.Object ∷ mark.One ∷ mark.Procedure ∷ mark.Remove ∷ mark.Reply ∷ mark.Set ∷ mark.Show ∷ mark.State ∷
+    mark.Table ∷ mark.Text ∷ mark.To ∷ mark.True ∷ mark.Truth ∷ mark.Up ∷ mark.View ∷ mark.Open ∷ mark.Close ∷ mark.OpenBrace ∷ mark.CloseBrace ∷ mark.Colon ∷
+    mark.Comma ∷ mark.Dot ∷ mark.Equals ∷ mark.Minus ∷ []
 
 abbrev numbered : ℕ → Mark
 numbered n = get_or marks n mark.Other
@@ -115,20 +118,50 @@ data Spelled (make : List ℕ → TokenKind) : List (List ℕ × Mark) → Type 
   no_rows : Spelled make []
   more_rows : (row : List ℕ × Mark) (rows : List (List ℕ × Mark)) → make row.0 ≡ spelling row.1 → Spelled make rows → Spelled make (row ∷ rows)
 
-row_spelled : (make : List ℕ → TokenKind) (row : List ℕ × Mark) → make row.0 ≡ spelling row.1 → (word : List ℕ) (m : Mark) → (b : Bool) → bytes_eq row.0 word ≡ b → (other : Mark) → (if b then row.1 else other) ≡ m
+row_spelled : (make : List ℕ → TokenKind) (row : List ℕ × Mark) → make row.0 ≡ spelling row.1 → (word : List ℕ) (m : Mark) → (b : Bool) →
+    bytes_eq row.0 word ≡ b → (other : Mark) → (if b then row.1 else other) ≡ m
     → (other ≡ m → make word ≡ spelling m) → make word ≡ spelling m
 row_spelled make row is word m true same other e more = ap make (sym ((bytes_eq-Decides row.0 word).0 same)) ∙ is ∙ ap spelling e
 row_spelled make row is word m false differ other e more = more e
 
-among_spelled : (make : List ℕ → TokenKind) (rows : List (List ℕ × Mark)) → Spelled make rows → (word : List ℕ) (m : Mark) → mark_among rows word ≡ m → (m ≡ mark.Other → ⊥) → make word ≡ spelling m
+among_spelled : (make : List ℕ → TokenKind) (rows : List (List ℕ × Mark)) → Spelled make rows → (word : List ℕ) (m : Mark) → mark_among rows word ≡ m →
+    (m ≡ mark.Other → ⊥) → make word ≡ spelling m
 among_spelled make _ no_rows word m e other = absurd (other (sym e))
-among_spelled make _ (more_rows row rows is more) word m e other = row_spelled make row is word m (bytes_eq row.0 word) refl (mark_among rows word) e (λ h. among_spelled make rows more word m h other)
+among_spelled make _ (more_rows row rows is more) word m e other =
+    row_spelled make row is word m (bytes_eq row.0 word) refl (mark_among rows word) e (λ h. among_spelled make rows more word m h other)
 
 words_spelled : Spelled kind.Reserved words
-words_spelled = more_rows _ _ refl (more_rows _ _ refl (more_rows _ _ refl (more_rows _ _ refl (more_rows _ _ refl (more_rows _ _ refl (more_rows _ _ refl (more_rows _ _ refl (more_rows _ _ refl (more_rows _ _ refl (more_rows _ _ refl (more_rows _ _ refl (more_rows _ _ refl (more_rows _ _ refl (more_rows _ _ refl (more_rows _ _ refl (more_rows _ _ refl (more_rows _ _ refl (more_rows _ _ refl (more_rows _ _ refl (more_rows _ _ refl (more_rows _ _ refl (more_rows _ _ refl (more_rows _ _ refl (more_rows _ _ refl (more_rows _ _ refl (more_rows _ _ refl (more_rows _ _ refl (more_rows _ _ refl (more_rows _ _ refl no_rows)))))))))))))))))))))))))))))
+words_spelled = more_rows _ _ refl
+    (more_rows _ _ refl
+    (more_rows _ _ refl
+    (more_rows _ _ refl
+    (more_rows _ _ refl
+    (more_rows _ _ refl
+    (more_rows _ _ refl
+    (more_rows _ _ refl
+    (more_rows _ _ refl
+    (more_rows _ _ refl
+    (more_rows _ _ refl
+    (more_rows _ _ refl
+    (more_rows _ _ refl
+    (more_rows _ _ refl
+    (more_rows _ _ refl
+    (more_rows _ _ refl
+    (more_rows _ _ refl
+    (more_rows _ _ refl
+    (more_rows _ _ refl
+    (more_rows _ _ refl
+    (more_rows _ _ refl
+    (more_rows _ _ refl
+    (more_rows _ _ refl
+    (more_rows _ _ refl
+    (more_rows _ _ refl (more_rows _ _ refl (more_rows _ _ refl (more_rows _ _ refl (more_rows _ _ refl (more_rows _ _ refl no_rows)))))))))))))))))))))))))))))
 
 symbols_spelled : Spelled kind.Symbol symbols
-symbols_spelled = more_rows _ _ refl (more_rows _ _ refl (more_rows _ _ refl (more_rows _ _ refl (more_rows _ _ refl (more_rows _ _ refl (more_rows _ _ refl (more_rows _ _ refl (more_rows _ _ refl no_rows))))))))
+symbols_spelled =
+    more_rows _ _ refl
+    (more_rows _ _ refl
+    (more_rows _ _ refl (more_rows _ _ refl (more_rows _ _ refl (more_rows _ _ refl (more_rows _ _ refl (more_rows _ _ refl (more_rows _ _ refl no_rows))))))))
 
 spelled_mark : (k : TokenKind) (m : Mark) → mark_of k ≡ m → (m ≡ mark.Other → ⊥) → k ≡ spelling m
 spelled_mark (kind.Name name) m e other = absurd (other (sym e))

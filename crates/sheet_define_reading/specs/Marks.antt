@@ -5,6 +5,7 @@ use Rattle.sheet_syntax_trees.specs.declared.token.TokenKind.TheVariants as kind
 use Rattle.sheet_define_reading.specs.declared.mark.Mark.{Mark}
 use Rattle.sheet_define_reading.specs.declared.mark.Mark.TheVariants as mark
 
+-- the marks of reserved words
 abbrev pub words : List (List ℕ × Mark)
 words =
     (codes "add", mark.Add) ∷ (codes "allow", mark.Allow) ∷ (codes "callers", mark.Callers) ∷ (codes "check", mark.Check) ∷ (codes "delete", mark.Delete)
@@ -14,6 +15,7 @@ words =
     ∷ (codes "set", mark.Set) ∷ (codes "show", mark.Show) ∷ (codes "state", mark.State) ∷ (codes "table", mark.Table) ∷ (codes "text", mark.Text)
     ∷ (codes "to", mark.To) ∷ (codes "true", mark.True) ∷ (codes "truth", mark.Truth) ∷ (codes "up", mark.Up) ∷ (codes "view", mark.View) ∷ []
 
+-- the marks of symbols
 abbrev pub symbols : List (List ℕ × Mark)
 symbols =
     (codes "(", mark.Open) ∷ (codes ")", mark.Close) ∷ (codes "{", mark.OpenBrace) ∷ (codes "}", mark.CloseBrace) ∷ (codes ":", mark.Colon)
@@ -24,6 +26,7 @@ abbrev pub mark_among : List (List ℕ × Mark) → List ℕ → Mark
 mark_among [] word = mark.Other
 mark_among (row ∷ rows) word = if bytes_eq row.0 word then row.1 else mark_among rows word
 
+-- the mark of a token
 abbrev pub mark_of : TokenKind → Mark
 mark_of (kind.Name name) = mark.Other
 mark_of (kind.Reserved word) = mark_among words word
@@ -74,5 +77,6 @@ mark_rank mark.Dot = 37
 mark_rank mark.Equals = 38
 mark_rank mark.Minus = 39
 
+-- whether two marks are the same
 abbrev pub same_mark : Mark → Mark → Bool
 same_mark a b = mark_rank a == mark_rank b

@@ -1,5 +1,6 @@
 -- Places that come one after another.
-use Rattle.std.proofs.Common.{◌≡◌, refl, sym, ap, ◌∙◌, subst, ℕ, ◌+◌, ◌<◌, ◌≤◌, Bool, true, false, cond, List, take, length, get_or, arith, eq-eqb, ◌⊎◌, inl, inr}
+use Rattle.std.proofs.Common.{◌≡◌, refl, sym, ap, ◌∙◌, subst, ℕ, ◌+◌, ◌<◌, ◌≤◌, Bool, true, false, cond, List, take, length, get_or, arith, eq-eqb, ◌⊎◌, inl}
+use Rattle.std.proofs.Common.{inr}
 use Rattle.std.specs.Prelude.{◌||◌}
 use Rattle.std.specs.declared.cmp.Ordering.{Ordering}
 use Rattle.std.specs.Ordering.{is_eq, nat_cmp}
@@ -20,7 +21,8 @@ pub none_added : (W : ℕ → Type 0) (n : ℕ) (xs : List ℕ) → ((k : ℕ) �
 none_added W n xs none = record { found = λ k w. absurd (none k w); kept = λ k h. h; fits = λ f. f }
 
 -- one came
-pub one_added : (W : ℕ → Type 0) (n m : ℕ) (old new : List ℕ) → ((k : ℕ) → has k new ≡ cond (is_eq (nat_cmp m k)) true (has k old)) → m < n → ((k : ℕ) → W k → m ≡ k) → Adds W n old new
+pub one_added : (W : ℕ → Type 0) (n m : ℕ) (old new : List ℕ) → ((k : ℕ) → has k new ≡ cond (is_eq (nat_cmp m k)) true (has k old)) → m < n →
+    ((k : ℕ) → W k → m ≡ k) → Adds W n old new
 one_added W n m old new is lt only = record {
   found = λ k w. is k ∙ ap (λ b. cond b true (has k old)) (ties m k ∙ eq-eqb m k (only k w));
   kept = λ k h. is k ∙ ap (cond (is_eq (nat_cmp m k)) true) h ∙ always (is_eq (nat_cmp m k));
@@ -56,9 +58,13 @@ abbrev pub Among : {A : Type 0} → (A → A → Ordering) → (A → ℕ → Ty
 Among {A} cmp W xs k = (x : A) × (holds cmp x xs ≡ true) × W x k
 
 -- those for one more
-pub each_more : {A : Type 0} (cmp : A → A → Ordering) (same : (x y : A) → is_eq (cmp x y) ≡ true → x ≡ y) (W : A → ℕ → Type 0) (n : ℕ) (a b c : List ℕ) (xs : List A) (i : ℕ) (d : A) → i < length xs → Adds (Among cmp W (take i xs)) n a b → Adds (W (get_or xs i d)) n b c → Adds (Among cmp W (take (i + 1) xs)) n a c
+pub each_more : {A : Type 0} (cmp : A → A → Ordering) (same : (x y : A) → is_eq (cmp x y) ≡ true → x ≡ y) (W : A → ℕ →
+    Type 0) (n : ℕ) (a b c : List ℕ) (xs : List A) (i : ℕ) (d : A) → i < length xs → Adds (Among cmp W (take i xs)) n a b → Adds (W (get_or xs i d)) n b c →
+    Adds (Among cmp W (take (i + 1) xs)) n a c
 each_more {A} cmp same W n a b c xs i d lt v w =
-    fewer (λ k. Among cmp W (take i xs) k ⊎ W (get_or xs i d) k) (Among cmp W (take (i + 1) xs)) n a c (λ k h. at k h.0 h.2 (one_of (holds cmp h.0 (take i xs)) (is_eq (cmp h.0 (get_or xs i d))) (sym (list_any_more (λ y. is_eq (cmp h.0 y)) xs i d lt) ∙ h.1)))
+    fewer (λ k. Among cmp W (take i xs) k ⊎ W (get_or xs i d) k) (Among cmp W (take (i + 1) xs)) n a c
+    (λ k h. at k h.0 h.2 (one_of (holds cmp h.0 (take i xs)) (is_eq (cmp h.0 (get_or xs i d))) (sym (list_any_more (λ y. is_eq (cmp h.0 y)) xs i d lt)
+    ∙ h.1)))
     (both_added (Among cmp W (take i xs)) (W (get_or xs i d)) n a b c v w)
   where
     one_of : (p q : Bool) → (p || q) ≡ true → (p ≡ true) ⊎ (q ≡ true)
@@ -72,7 +78,8 @@ each_more {A} cmp same W n a b c xs i d lt v w =
 pub each_none : {A : Type 0} (cmp : A → A → Ordering) (W : A → ℕ → Type 0) (n : ℕ) (a : List ℕ) (xs : List A) → Adds (Among cmp W (take 0 xs)) n a a
 each_none cmp W n a xs = none_added (Among cmp W (take 0 xs)) n a (λ k h. let e = h.1 in cc)
 
-pub each_all : {A : Type 0} (cmp : A → A → Ordering) (W : A → ℕ → Type 0) (n : ℕ) (a b : List ℕ) (xs : List A) (i : ℕ) → length xs ≤ i → Adds (Among cmp W (take i xs)) n a b → Adds (Among cmp W xs) n a b
+pub each_all : {A : Type 0} (cmp : A → A → Ordering) (W : A → ℕ → Type 0) (n : ℕ) (a b : List ℕ) (xs : List A) (i : ℕ) → length xs ≤ i →
+    Adds (Among cmp W (take i xs)) n a b → Adds (Among cmp W xs) n a b
 each_all cmp W n a b xs i long v = subst (λ l. Adds (Among cmp W l) n a b) (take_all i xs long) v
 
 -- what is wanted for a value that is an object
@@ -89,5 +96,7 @@ pub for_any : (W : ℕ → ℕ → Type 0) (n : ℕ) (a b : List ℕ) (d : List 
 for_any W n a b d v = fewer (Among value_cmp (OfObject W) d) (OfAny d W) n a b (λ k h. (Object h.0, h.1, (h.0, refl, h.2))) v
 
 -- one value more, and what came for it
-pub value_more : (W : ℕ → ℕ → Type 0) (n : ℕ) (a b c : List ℕ) (vs : List Value) (i : ℕ) (d : Value) → i < length vs → Adds (Among value_cmp (OfObject W) (take i vs)) n a b → Adds (OfObject W (get_or vs i d)) n b c → Adds (Among value_cmp (OfObject W) (take (i + 1) vs)) n a c
+pub value_more : (W : ℕ → ℕ → Type 0) (n : ℕ) (a b c : List ℕ) (vs : List Value) (i : ℕ) (d : Value) → i < length vs →
+    Adds (Among value_cmp (OfObject W) (take i vs)) n a b → Adds (OfObject W (get_or vs i d)) n b c →
+    Adds (Among value_cmp (OfObject W) (take (i + 1) vs)) n a c
 value_more W n a b c vs i d lt v w = each_more value_cmp value_is (OfObject W) n a b c vs i d lt v w

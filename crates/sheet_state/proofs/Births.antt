@@ -1,5 +1,6 @@
 -- What the columns under a column give, one column after another.
-use Rattle.std.proofs.Common.{◌≡◌, refl, sym, ap, ◌∙◌, subst, ℕ, ◌+◌, ◌<◌, zero, suc, Bool, true, false, List, [], ◌∷◌, ◌++◌, length, take, arith, append_assoc, add-one, Option, Some, None}
+use Rattle.std.proofs.Common.{◌≡◌, refl, sym, ap, ◌∙◌, subst, ℕ, ◌+◌, ◌<◌, zero, suc, Bool, true, false, List, [], ◌∷◌, ◌++◌, length, take, arith, append_assoc}
+use Rattle.std.proofs.Common.{add-one, Option, Some, None}
 use Rattle.std.specs.Prelude.{map, slice_get, option_and_then, option_map, if◌then◌else◌}
 use Rattle.std.specs.List.{filter_map, enumerate_from}
 use Rattle.std.specs.Option.{option_to_list}
@@ -12,7 +13,8 @@ use Rattle.sheet_columns.specs.declared.tree.Column.{Column}
 use Rattle.sheet_columns.specs.declared.tree.Node.{Node}
 use Rattle.sheet_state_rows.specs.Rows.{Table}
 use Rattle.sheet_meaning.specs.WellFormed.{StateColumn, as_state, state_columns}
-use Rattle.sheet_state.specs.Births.{child_at, state_at, extent_at, formula_at, is_formula, formula_columns, new_cell, new_extent, item_of, with_items, with_rows}
+use Rattle.sheet_state.specs.Births.{child_at, state_at, extent_at, formula_at, is_formula, formula_columns, new_cell, new_extent, item_of, with_items}
+use Rattle.sheet_state.specs.Births.{with_rows}
 use Rattle.sheet_state.specs.Kept.{schema_of, as_extent, object_columns}
 
 take_next : {A : Type 0} (xs : List A) (k : ℕ) (y : A) → slice_get xs k ≡ Some y → take (suc k) xs ≡ take k xs ++ y ∷ []
@@ -39,7 +41,8 @@ one f x = at (f x)
     at (Some y) = refl
 
 -- one column more
-pub more : {A : Type 0} (f : ℕ × Node → Option A) (nodes : List Node) (k : ℕ) (n : Node) → slice_get nodes k ≡ Some n → filter_map f (enumerate_from 0 (take (k + 1) nodes)) ≡ filter_map f (enumerate_from 0 (take k nodes)) ++ option_to_list (f (k, n))
+pub more : {A : Type 0} (f : ℕ × Node → Option A) (nodes : List Node) (k : ℕ) (n : Node) → slice_get nodes k ≡ Some n →
+    filter_map f (enumerate_from 0 (take (k + 1) nodes)) ≡ filter_map f (enumerate_from 0 (take k nodes)) ++ option_to_list (f (k, n))
 more f nodes k n got =
     ap (λ j. filter_map f (enumerate_from 0 (take j nodes))) (add-one k)
     ∙ ap (λ l. filter_map f (enumerate_from 0 l)) (take_next nodes k n got)
@@ -75,7 +78,8 @@ got_at (x ∷ xs) zero lt = (x, refl)
 got_at (x ∷ xs) (suc k) lt = got_at xs k (omega arith)
 
 -- rows after rows
-pub rows_after : (t : Table) (o : ℕ) (ks more : List StateColumn) (xs ys : List ℕ) → with_rows (with_rows t o ks xs) o more ys ≡ with_rows t o (ks ++ more) (xs ++ ys)
+pub rows_after : (t : Table) (o : ℕ) (ks more : List StateColumn) (xs ys : List ℕ) →
+    with_rows (with_rows t o ks xs) o more ys ≡ with_rows t o (ks ++ more) (xs ++ ys)
 rows_after t o ks more xs ys =
     ap (λ l. record t { cells = l; extents = (t.extents ++ map (new_extent o) xs) ++ map (new_extent o) ys })
     (append_assoc t.cells (map (new_cell o) ks) (map (new_cell o) more) ∙ ap (λ l. t.cells ++ l) (sym (map-append (new_cell o) ks more)))
@@ -86,14 +90,17 @@ pub no_rows : (t : Table) (o : ℕ) → with_rows t o [] [] ≡ t
 no_rows t o =
     ap (λ l. record t { cells = l; extents = t.extents ++ [] }) (append-nil t.cells) ∙ ap (λ l. record t { extents = l }) (append-nil t.extents)
 
-pub items_after : (o : ℕ) (items : List Item) (ks more : List StateColumn) → with_items (with_items items (filter_map (item_of o) ks)) (filter_map (item_of o) more) ≡ with_items items (filter_map (item_of o) (ks ++ more))
+pub items_after : (o : ℕ) (items : List Item) (ks more : List StateColumn) →
+    with_items (with_items items (filter_map (item_of o) ks)) (filter_map (item_of o) more) ≡ with_items items (filter_map (item_of o) (ks ++ more))
 items_after o items ks more =
     sym (fold-append _ items (filter_map (item_of o) ks) (filter_map (item_of o) more))
     ∙ ap (with_items items) (sym (filter_map-append (item_of o) ks more))
 
 -- the root stands under no column
-pub none_yet : (nodes : List Node) → slice_get nodes 0 ≡ Some root → (c : ℕ) → (state_columns (schema_of (take 1 nodes)) c ≡ []) × (object_columns (take 1 nodes) c ≡ []) × (formula_columns (take 1 nodes) c ≡ [])
+pub none_yet : (nodes : List Node) → slice_get nodes 0 ≡ Some root → (c : ℕ) →
+    (state_columns (schema_of (take 1 nodes)) c ≡ []) × (object_columns (take 1 nodes) c ≡ []) × (formula_columns (take 1 nodes) c ≡ [])
 none_yet [] e c = cc
 none_yet (n ∷ nodes) e c =
     let same : n ≡ root = cc in
-    subst (λ m. (state_columns (schema_of (take 1 (m ∷ nodes))) c ≡ []) × (object_columns (take 1 (m ∷ nodes)) c ≡ []) × (formula_columns (take 1 (m ∷ nodes)) c ≡ [])) (sym same) (refl, refl, refl)
+    subst (λ m. (state_columns (schema_of (take 1 (m ∷ nodes))) c ≡ []) × (object_columns (take 1 (m ∷ nodes)) c ≡ []) × (formula_columns (take 1 (m ∷ nodes))
+    c ≡ [])) (sym same) (refl, refl, refl)

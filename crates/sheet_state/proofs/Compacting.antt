@@ -16,8 +16,11 @@ use Rattle.sheet_state.proofs.Without.{filter_all}
 pub objects_kept : (rows : List ObjectRow) → objects_in (filter (λ (r : ObjectRow). r.live) rows) ≡ objects_in rows
 objects_kept [] = refl
 objects_kept (r ∷ rows) =
-    elim r.live as (λ b. r.live ≡ b → objects_in (cond b (r ∷ filter (λ (q : ObjectRow). q.live) rows) (filter (λ (q : ObjectRow). q.live) rows)) ≡ cons_option (if b then Some (object_of r) else None) (objects_in rows)) [
-      | true ↦ λ e. ap (λ b. cons_option (if b then Some (object_of r) else None) (objects_in (filter (λ (q : ObjectRow). q.live) rows))) e ∙ ap (λ l. object_of r ∷ l) (objects_kept rows)
+    elim r.live as (λ b. r.live ≡ b →
+    objects_in (cond b (r ∷ filter (λ (q : ObjectRow). q.live) rows) (filter (λ (q : ObjectRow). q.live) rows)) ≡ cons_option (if b then Some (object_of r)
+    else None) (objects_in rows)) [
+      | true ↦ λ e. ap (λ b. cons_option (if b then Some (object_of r) else None) (objects_in (filter (λ (q : ObjectRow). q.live) rows))) e
+          ∙ ap (λ l. object_of r ∷ l) (objects_kept rows)
       | false ↦ λ e. objects_kept rows
     ] refl
 
@@ -27,8 +30,11 @@ cell_of q = record { object = q.object; column = q.column; set = q.set }
 pub cells_kept : (rows : List SetRow) → cells_in (filter (λ (r : SetRow). r.live) rows) ≡ cells_in rows
 cells_kept [] = refl
 cells_kept (r ∷ rows) =
-    elim r.live as (λ b. r.live ≡ b → cells_in (cond b (r ∷ filter (λ (q : SetRow). q.live) rows) (filter (λ (q : SetRow). q.live) rows)) ≡ cons_option (if b then Some (cell_of r) else None) (cells_in rows)) [
-      | true ↦ λ e. ap (λ b. cons_option (if b then Some (cell_of r) else None) (cells_in (filter (λ (q : SetRow). q.live) rows))) e ∙ ap (λ l. cell_of r ∷ l) (cells_kept rows)
+    elim r.live as (λ b. r.live ≡ b →
+    cells_in (cond b (r ∷ filter (λ (q : SetRow). q.live) rows) (filter (λ (q : SetRow). q.live) rows)) ≡ cons_option (if b then Some (cell_of r) else None)
+    (cells_in rows)) [
+      | true ↦ λ e. ap (λ b. cons_option (if b then Some (cell_of r) else None) (cells_in (filter (λ (q : SetRow). q.live) rows))) e
+          ∙ ap (λ l. cell_of r ∷ l) (cells_kept rows)
       | false ↦ λ e. cells_kept rows
     ] refl
 
@@ -40,9 +46,21 @@ rows_total = then_total (on_total (λ (r : SetRow). r.object) nat_cmp_total) (on
 
 pub moment_kept : (t : Table) → moment (only_live t) ≡ moment t
 moment_kept t =
-    ap (λ xs. record { state = record { objects = xs; cells = cells_in (only_live t).cells; next = t.counters.next }; extents = map (λ (x : StoredCell). (x.object, x.column)) (cells_in (only_live t).extents); cells = t.counters.cells }) (objects_kept t.objects)
-    ∙ ap (λ xs. record { state = record { objects = objects_in t.objects; cells = xs; next = t.counters.next }; extents = map (λ (x : StoredCell). (x.object, x.column)) (cells_in (only_live t).extents); cells = t.counters.cells }) (cells_kept t.cells)
-    ∙ ap (λ xs. record { state = record { objects = objects_in t.objects; cells = cells_in t.cells; next = t.counters.next }; extents = map (λ (x : StoredCell). (x.object, x.column)) xs; cells = t.counters.cells }) (cells_kept t.extents)
+    ap (λ xs. record {
+      state = record { objects = xs; cells = cells_in (only_live t).cells; next = t.counters.next };
+      extents = map (λ (x : StoredCell). (x.object, x.column)) (cells_in (only_live t).extents);
+      cells = t.counters.cells;
+    }) (objects_kept t.objects)
+    ∙ ap (λ xs. record {
+      state = record { objects = objects_in t.objects; cells = xs; next = t.counters.next };
+      extents = map (λ (x : StoredCell). (x.object, x.column)) (cells_in (only_live t).extents);
+      cells = t.counters.cells;
+    }) (cells_kept t.cells)
+    ∙ ap (λ xs. record {
+      state = record { objects = objects_in t.objects; cells = cells_in t.cells; next = t.counters.next };
+      extents = map (λ (x : StoredCell). (x.object, x.column)) xs;
+      cells = t.counters.cells;
+    }) (cells_kept t.extents)
 
 pub sound_kept : (t : Table) → IsSound t → IsSound (only_live t)
 sound_kept t s = record {

@@ -1,5 +1,6 @@
 -- The cells and extents that there are have their rows.
-use Rattle.std.proofs.Common.{◌≡◌, refl, sym, ap, ◌∙◌, subst, ℕ, ◌+◌, zero, suc, Bool, true, false, List, [], ◌∷◌, arith, Option, Some, None, eq-eqb, inl, inr, ⊎_elim}
+use Rattle.std.proofs.Common.{◌≡◌, refl, sym, ap, ◌∙◌, subst, ℕ, ◌+◌, zero, suc, Bool, true, false, List, [], ◌∷◌, arith, Option, Some, None, eq-eqb, inl, inr}
+use Rattle.std.proofs.Common.{⊎_elim}
 use Rattle.std.specs.Prelude.{slice_get, ◌==◌, ◌&&◌, if◌then◌else◌, map, option_map, option_and_then, IsSome}
 use Rattle.std.specs.List.{filter_map, cons_option, enumerate_from, AllByRecursion}
 use Rattle.std.proofs.lemmas.Bool.{eqb-true}
@@ -53,7 +54,8 @@ same_number k = eq-eqb k k refl
 
 -- what a column gives is among what the columns under the one above it give
 module _ {A : Type 0} (f : ℕ → Column → Option A) (nodes : List Node) (above k : ℕ) (c : Column) (a : A) where
-  pub given_in : above_of nodes k ≡ Some above → column_of nodes k ≡ Some c → f k c ≡ Some a → IsIn a (filter_map (λ (x : ℕ × Node). if is_number above x.1.above then f x.0 x.1.column else None) (enumerate_from 0 nodes))
+  pub given_in : above_of nodes k ≡ Some above → column_of nodes k ≡ Some c → f k c ≡ Some a →
+      IsIn a (filter_map (λ (x : ℕ × Node). if is_number above x.1.above then f x.0 x.1.column else None) (enumerate_from 0 nodes))
   given_in up is gives =
       let n = node_at nodes k c is in
       let under : n.0.above ≡ Some above = ap (option_and_then (λ (m : Node). m.above)) (sym n.1) ∙ up in
@@ -66,13 +68,15 @@ module _ {A : Type 0} (f : ℕ → Column → Option A) (nodes : List Node) (abo
 
 module _ (nodes : List Node) (s : State) (o k : ℕ) (x : LiveObject) (live : object_at s.objects o ≡ Some x) (up : above_of nodes k ≡ Some x.column) where
   -- a state cell of a live object is one of those that there are
-  pub cell_there : (kind : Kind) (one : Bool) (first : Option Value) → column_of nodes k ≡ Some (column.State kind one first) → IsIn {A = ℕ × ℕ} (o, k) (state_cells (book nodes s))
+  pub cell_there : (kind : Kind) (one : Bool) (first : Option Value) → column_of nodes k ≡ Some (column.State kind one first) →
+      IsIn {A = ℕ × ℕ} (o, k) (state_cells (book nodes s))
   cell_there kind one first is =
       let l = live_in s.objects o x live in
       let sc : StateColumn = record { number = k; kind = kind; one = one; first = first } in
       in_flat_map (λ (y : LiveObject). map (λ (c : StateColumn). (y.number, c.number)) (state_columns (schema_of nodes) y.column)) s.objects x (o, k) l.0
       (subst (λ (n : ℕ). IsIn {A = ℕ × ℕ} (n, k) (map (λ (c : StateColumn). (x.number, c.number)) (state_columns (schema_of nodes) x.column))) l.1
-      (in_map (λ (c : StateColumn). (x.number, c.number)) (state_columns (schema_of nodes) x.column) sc (given_in as_state nodes x.column k (column.State kind one first) sc up is refl)))
+      (in_map (λ (c : StateColumn). (x.number, c.number)) (state_columns (schema_of nodes) x.column) sc
+      (given_in as_state nodes x.column k (column.State kind one first) sc up is refl)))
 
   -- so is an extent
   pub extent_there : column_of nodes k ≡ Some column.Object → IsIn {A = ℕ × ℕ} (o, k) (extents_of nodes s.objects)
@@ -90,10 +94,13 @@ key x = (x.object, x.column)
 pub row_there : (o c : ℕ) (rows : List SetRow) → IsIn {A = ℕ × ℕ} (o, c) (map key (cells_in rows)) → AllByRecursion (λ r. is_set o c r ≡ false) rows → ⊥
 row_there o c [] h none = h
 row_there o c (q ∷ rows) h none =
-    elim q.live as (λ b. (b && at o c q) ≡ false → IsIn {A = ℕ × ℕ} (o, c) (map key (cons_option (if b then Some (record { object = q.object; column = q.column; set = q.set }) else None) (cells_in rows))) → ⊥) [
+    elim q.live as (λ b. (b && at o c q) ≡ false →
+    IsIn {A = ℕ × ℕ} (o, c)
+    (map key (cons_option (if b then Some (record { object = q.object; column = q.column; set = q.set }) else None) (cells_in rows))) → ⊥) [
       | true ↦ λ e i. ⊎_elim
           (λ (same : (o, c) ≡ (q.object, q.column)).
-          let hit : at o c q ≡ true = ap (λ b. b && q.column == c) (eq-eqb q.object o (ap (λ p. p.0) (sym same))) ∙ eq-eqb q.column c (ap (λ p. p.1) (sym same)) in
+          let hit : at o c q ≡ true = ap (λ b. b && q.column == c) (eq-eqb q.object o (ap (λ p. p.0) (sym same)))
+          ∙ eq-eqb q.column c (ap (λ p. p.1) (sym same)) in
           cc)
           (λ j. row_there o c rows j none.1)
           i
@@ -101,7 +108,8 @@ row_there o c (q ∷ rows) h none =
     ] none.0 h
 
 -- a column that holds sets of values is a state column
-pub state_column : (s : State) (x : StoredCell) (c : Option Column) → HoldsKind s x c → (kind : Kind) × (one : Bool) × (first : Option Value) × (c ≡ Some (column.State kind one first))
+pub state_column : (s : State) (x : StoredCell) (c : Option Column) → HoldsKind s x c →
+    (kind : Kind) × (one : Bool) × (first : Option Value) × (c ≡ Some (column.State kind one first))
 state_column s x None h = absurd h
 state_column s x (Some column.Object) h = absurd h
 state_column s x (Some (column.State kind one first)) h = (kind, one, first, refl)

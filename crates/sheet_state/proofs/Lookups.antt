@@ -64,14 +64,16 @@ first_passes p (y ∷ ys) (suc k) x f = first_passes p ys k x f.1
 -- the set of a row that passes is what the cell holds
 pub set_first : (o c : ℕ) (r : SetRow) (rest : List StoredCell) → is_set o c r ≡ true → set_in (cons_option (live_cell r) rest) o c ≡ r.set
 set_first o c r rest e =
-    elim r.live as (λ b. (b && (r.object == o && r.column == c)) ≡ true → set_in (cons_option (if b then Some (record { object = r.object; column = r.column; set = r.set }) else None) rest) o c ≡ r.set) [
+    elim r.live as (λ b. (b && (r.object == o && r.column == c)) ≡ true →
+    set_in (cons_option (if b then Some (record { object = r.object; column = r.column; set = r.set }) else None) rest) o c ≡ r.set) [
       | true ↦ λ h. ap (λ t. if t then r.set else set_in rest o c) h
       | false ↦ λ h. cc
     ] e
 
 pub set_skip : (o c : ℕ) (r : SetRow) (rest : List StoredCell) → is_set o c r ≡ false → set_in (cons_option (live_cell r) rest) o c ≡ set_in rest o c
 set_skip o c r rest e =
-    elim r.live as (λ b. (b && (r.object == o && r.column == c)) ≡ false → set_in (cons_option (if b then Some (record { object = r.object; column = r.column; set = r.set }) else None) rest) o c ≡ set_in rest o c) [
+    elim r.live as (λ b. (b && (r.object == o && r.column == c)) ≡ false →
+    set_in (cons_option (if b then Some (record { object = r.object; column = r.column; set = r.set }) else None) rest) o c ≡ set_in rest o c) [
       | true ↦ λ h. ap (λ t. if t then r.set else set_in rest o c) h
       | false ↦ λ h. refl
     ] e
@@ -87,14 +89,17 @@ set_missing o c (q ∷ rows) h = set_skip o c q (cells_in rows) h.0 ∙ set_miss
 
 object_first : (o : ℕ) (r : ObjectRow) (rest : List LiveObject) → is_object o r ≡ true → object_at (cons_option (live_object r) rest) o ≡ live_object r
 object_first o r rest e =
-    elim r.live as (λ b. (b && r.number == o) ≡ true → object_at (cons_option (if b then Some (record { number = r.number; column = r.column; parent = r.parent }) else None) rest) o ≡ (if b then Some (record { number = r.number; column = r.column; parent = r.parent }) else None)) [
+    elim r.live as (λ b. (b && r.number == o) ≡ true →
+    object_at (cons_option (if b then Some (record { number = r.number; column = r.column; parent = r.parent }) else None) rest)
+    o ≡ (if b then Some (record { number = r.number; column = r.column; parent = r.parent }) else None)) [
       | true ↦ λ h. ap (λ t. if t then Some (record { number = r.number; column = r.column; parent = r.parent }) else object_at rest o) h
       | false ↦ λ h. cc
     ] e
 
 object_skip : (o : ℕ) (r : ObjectRow) (rest : List LiveObject) → is_object o r ≡ false → object_at (cons_option (live_object r) rest) o ≡ object_at rest o
 object_skip o r rest e =
-    elim r.live as (λ b. (b && r.number == o) ≡ false → object_at (cons_option (if b then Some (record { number = r.number; column = r.column; parent = r.parent }) else None) rest) o ≡ object_at rest o) [
+    elim r.live as (λ b. (b && r.number == o) ≡ false →
+    object_at (cons_option (if b then Some (record { number = r.number; column = r.column; parent = r.parent }) else None) rest) o ≡ object_at rest o) [
       | true ↦ λ h. ap (λ t. if t then Some (record { number = r.number; column = r.column; parent = r.parent }) else object_at rest o) h
       | false ↦ λ h. refl
     ] e

@@ -31,7 +31,9 @@ use Rattle.sheet_state.proofs.WithObject.{all_map}
 pub buried_number : (d : List Value) (r : ObjectRow) → (buried d r).number ≡ r.number
 buried_number d r = elim (is_doomed d r) as (λ b. (if b then record r { live = false } else r).number ≡ r.number) [ true ↦ refl | false ↦ refl ]
 
-swept_by : (d : List Value) (r : SetRow) (b c : Bool) → ((if b then (if c then record r { live = false; set = [] } else record r { set = minus r.set d }) else r).object ≡ r.object) × ((if b then (if c then record r { live = false; set = [] } else record r { set = minus r.set d }) else r).column ≡ r.column)
+swept_by : (d : List Value) (r : SetRow) (b c : Bool) →
+    ((if b then (if c then record r { live = false; set = [] } else record r { set = minus r.set d }) else r).object ≡ r.object) ×
+    ((if b then (if c then record r { live = false; set = [] } else record r { set = minus r.set d }) else r).column ≡ r.column)
 swept_by d r true true = (refl, refl)
 swept_by d r true false = (refl, refl)
 swept_by d r false c = (refl, refl)
@@ -40,7 +42,8 @@ pub swept_key : (d : List Value) (r : SetRow) → ((swept d r).object ≡ r.obje
 swept_key d r = swept_by d r r.live (contains (Object r.object) d)
 
 -- rows whose keys stay keep their order
-rising_map : {A : Type 0} (cmp : A → A → Ordering) (f : A → A) → ((x y : A) → cmp (f x) (f y) ≡ cmp x y) → (xs : List A) → IsRising cmp xs → IsRising cmp (map f xs)
+rising_map : {A : Type 0} (cmp : A → A → Ordering) (f : A → A) → ((x y : A) → cmp (f x) (f y) ≡ cmp x y) → (xs : List A) → IsRising cmp xs →
+    IsRising cmp (map f xs)
 rising_map cmp f same [] r = tt
 rising_map {A} cmp f same (x ∷ xs) r = (below xs r.0, rising_map cmp f same xs r.1)
   where
@@ -64,7 +67,8 @@ ones : (xs : List LiveObject) → sum_by (λ (x : LiveObject). 1) xs ≡ length 
 ones [] = refl
 ones (x ∷ xs) = let a = sum_by-cons (λ (y : LiveObject). 1) x xs in let b = ones xs in omega arith
 
-module _ (nodes : List Node) (t : Table) (sound : IsSound t) (m : IsMoment nodes (moment t)) (o : ℕ) (positive : 0 < o) (d : List Value) (k : Knows d (family (objects_in t.objects) o)) where
+module _ (nodes : List Node) (t : Table) (sound : IsSound t) (m : IsMoment nodes (moment t)) (o : ℕ) (positive : 0 < o) (d : List Value)
+    (k : Knows d (family (objects_in t.objects) o)) where
   abbrev ns : List ℕ
   ns = family (objects_in t.objects) o
 
@@ -74,7 +78,8 @@ module _ (nodes : List Node) (t : Table) (sound : IsSound t) (m : IsMoment nodes
   pub state_rid : state_of after ≡ without_object (state_of t) o
   state_rid =
       ap (λ (xs : List LiveObject). record { objects = xs; cells = cells_in after.cells; next = t.counters.next }) (objects_left d ns k t.objects)
-      ∙ ap (λ (xs : List StoredCell). record { objects = filter (stays ns) (objects_in t.objects); cells = xs; next = t.counters.next }) (cells_left d ns k t.cells)
+      ∙ ap (λ (xs : List StoredCell). record { objects = filter (stays ns) (objects_in t.objects); cells = xs; next = t.counters.next })
+      (cells_left d ns k t.cells)
 
   pub children_rid : (p c : ℕ) → set_in (cells_in after.extents) p c ≡ children_in (objects_in after.objects) p c
   children_rid p c =
@@ -85,7 +90,8 @@ module _ (nodes : List Node) (t : Table) (sound : IsSound t) (m : IsMoment nodes
       ∙ sym (children_left ns (objects_in t.objects) p c)
       ∙ ap (λ l. children_in l p c) (sym (objects_left d ns k t.objects))
     where
-      by_parent : (h : Bool) → has_number ns p ≡ h → (if h then [] else filter (is_other ns) (children_in (objects_in t.objects) p c)) ≡ filter (is_other ns) (children_in (objects_in t.objects) p c)
+      by_parent : (h : Bool) → has_number ns p ≡ h →
+          (if h then [] else filter (is_other ns) (children_in (objects_in t.objects) p c)) ≡ filter (is_other ns) (children_in (objects_in t.objects) p c)
       by_parent true e = sym (orphans o ns p c e (objects_in t.objects) (family_closed nodes (state_of t) m.well_formed o positive))
       by_parent false e = refl
 
@@ -102,9 +108,15 @@ module _ (nodes : List Node) (t : Table) (sound : IsSound t) (m : IsMoment nodes
         objects = rising_map object_cmp (buried d) (object_order d) t.objects sound.objects;
         cells = rising_map row_cmp (swept d) (row_order d) t.cells sound.cells;
         extents = rising_map row_cmp (swept d) (row_order d) t.extents sound.extents;
-        objects_drawn = all_map (λ (r : ObjectRow). r.number < t.counters.next) (buried d) t.objects (all_mono (λ (r : ObjectRow). r.number < t.counters.next) (λ (r : ObjectRow). (buried d r).number < t.counters.next) (λ r h. subst (λ n. n < t.counters.next) (sym (buried_number d r)) h) t.objects sound.objects_drawn);
-        cells_drawn = all_map (λ (r : SetRow). r.object < t.counters.next) (swept d) t.cells (all_mono (λ (r : SetRow). r.object < t.counters.next) (λ (r : SetRow). (swept d r).object < t.counters.next) (λ r h. subst (λ n. n < t.counters.next) (sym (swept_key d r).0) h) t.cells sound.cells_drawn);
-        extents_drawn = all_map (λ (r : SetRow). r.object < t.counters.next) (swept d) t.extents (all_mono (λ (r : SetRow). r.object < t.counters.next) (λ (r : SetRow). (swept d r).object < t.counters.next) (λ r h. subst (λ n. n < t.counters.next) (sym (swept_key d r).0) h) t.extents sound.extents_drawn);
+        objects_drawn = all_map (λ (r : ObjectRow). r.number < t.counters.next) (buried d) t.objects
+            (all_mono (λ (r : ObjectRow). r.number < t.counters.next) (λ (r : ObjectRow). (buried d r).number < t.counters.next)
+            (λ r h. subst (λ n. n < t.counters.next) (sym (buried_number d r)) h) t.objects sound.objects_drawn);
+        cells_drawn = all_map (λ (r : SetRow). r.object < t.counters.next) (swept d) t.cells
+            (all_mono (λ (r : SetRow). r.object < t.counters.next) (λ (r : SetRow). (swept d r).object < t.counters.next)
+            (λ r h. subst (λ n. n < t.counters.next) (sym (swept_key d r).0) h) t.cells sound.cells_drawn);
+        extents_drawn = all_map (λ (r : SetRow). r.object < t.counters.next) (swept d) t.extents
+            (all_mono (λ (r : SetRow). r.object < t.counters.next) (λ (r : SetRow). (swept d r).object < t.counters.next)
+            (λ r h. subst (λ n. n < t.counters.next) (sym (swept_key d r).0) h) t.extents sound.extents_drawn);
         children = children_rid;
         counted_objects = omega (arith, objects, all, rest, counted, left);
         counted_values = omega (arith, values, counted_values);

@@ -22,7 +22,8 @@ module _ (s t : Schema) (same : s.columns ≡ t.columns) (o c : ℕ) where
   tail : (a b : ℕ) (ms ns : List ℕ) → a ∷ ms ≡ b ∷ ns → (a ≡ b) × (ms ≡ ns)
   tail a b ms ns e = (let h : a ≡ b = cc in h, let h : ms ≡ ns = cc in h)
 
-  counted : (b : Bool) (x y : FormulaCell) (xs ys : List FormulaCell) → length xs ≡ length ys → length (cons_option (if b then Some x else None) xs) ≡ length (cons_option (if b then Some y else None) ys)
+  counted : (b : Bool) (x y : FormulaCell) (xs ys : List FormulaCell) → length xs ≡ length ys →
+      length (cons_option (if b then Some x else None) xs) ≡ length (cons_option (if b then Some y else None) ys)
   counted true x y xs ys e = omega (arith, e)
   counted false x y xs ys e = e
 
@@ -38,10 +39,12 @@ module _ (s t : Schema) (same : s.columns ≡ t.columns) (o c : ℕ) where
       ∙ ap (λ cols. length (cons_option (if is_number c (above_of cols f.column) then Some y else None) (filter_map (formula_cell t o c) gs))) same
       ∙ ap (λ n. length (cons_option (if is_number c (above_of t.columns n) then Some y else None) (filter_map (formula_cell t o c) gs))) parts.0
 
-cells_as_many : (s t : Schema) (u : State) → s.columns ≡ t.columns → formula_numbers s ≡ formula_numbers t → length (formula_cells (workbook s u)) ≡ length (formula_cells (workbook t u))
+cells_as_many : (s t : Schema) (u : State) → s.columns ≡ t.columns → formula_numbers s ≡ formula_numbers t →
+    length (formula_cells (workbook s u)) ≡ length (formula_cells (workbook t u))
 cells_as_many s t u same numbered = all u.objects
   where
-    all : (xs : List LiveObject) → length (flat_map (λ (x : LiveObject). cells_of s x.number x.column) xs) ≡ length (flat_map (λ (x : LiveObject). cells_of t x.number x.column) xs)
+    all : (xs : List LiveObject) →
+        length (flat_map (λ (x : LiveObject). cells_of s x.number x.column) xs) ≡ length (flat_map (λ (x : LiveObject). cells_of t x.number x.column) xs)
     all [] = refl
     all (x ∷ xs) =
         let a = length-append (cells_of s x.number x.column) (flat_map (λ (y : LiveObject). cells_of s y.number y.column) xs) in
@@ -54,7 +57,8 @@ cells_as_many s t u same numbered = all u.objects
 abbrev with_formulas : List Node → List ColumnFormula → Schema
 with_formulas nodes fs = record { columns = nodes; formulas = fs }
 
-other_formulas : (nodes : List Node) (fs gs : List ColumnFormula) (u : State) → numbers fs ≡ numbers gs → IsWellFormed (workbook (with_formulas nodes fs) u) → IsWellFormed (workbook (with_formulas nodes gs) u)
+other_formulas : (nodes : List Node) (fs gs : List ColumnFormula) (u : State) → numbers fs ≡ numbers gs → IsWellFormed (workbook (with_formulas nodes fs) u) →
+    IsWellFormed (workbook (with_formulas nodes gs) u)
 other_formulas nodes fs gs u e w =
     let same = cells_as_many (with_formulas nodes fs) (with_formulas nodes gs) u refl e in
     let few = w.few_cells in
@@ -74,7 +78,8 @@ other_formulas nodes fs gs u e w =
 carried : (nodes : List Node) (fs : List ColumnFormula) (u : State) → numbers fs ≡ numbers (schema_of nodes).formulas → Carries nodes (with_formulas nodes fs) u
 carried nodes fs u e =
     let gs = (schema_of nodes).formulas in
-    let same : cell_count (book nodes u) ≡ cell_count (workbook (with_formulas nodes fs) u) = ap (λ n. length (state_cells (book nodes u)) + n) (cells_as_many (with_formulas nodes gs) (with_formulas nodes fs) u refl (sym e)) in
+    let same : cell_count (book nodes u) ≡ cell_count (workbook (with_formulas nodes fs) u) =
+    ap (λ n. length (state_cells (book nodes u)) + n) (cells_as_many (with_formulas nodes gs) (with_formulas nodes fs) u refl (sym e)) in
     record {
       well_formed = (other_formulas nodes gs fs u (sym e), other_formulas nodes fs gs u e);
       cells = same;

@@ -23,14 +23,18 @@ use Rattle.sheet_state.proofs.WithSet.{set_well_formed}
 -- where only the values may be too many
 pub values_full : (a b v n : ℕ) → a ≤ max_objects → b ≤ max_cells → max_values < v → full_of a b v n ≡ Some (Values, max_values)
 values_full a b v n few_objects few_cells many =
-    ap (λ t. if t then Some (Objects, max_objects) else if nat_lt max_cells b then Some (Cells, max_cells) else if nat_lt max_values v then Some (Values, max_values) else if nat_lt (max_number + 1) n then Some (Numbers, max_number) else None) (le-ltb max_objects a few_objects)
-    ∙ ap (λ t. if t then Some (Cells, max_cells) else if nat_lt max_values v then Some (Values, max_values) else if nat_lt (max_number + 1) n then Some (Numbers, max_number) else None) (le-ltb max_cells b few_cells)
+    ap (λ t. if t then Some (Objects, max_objects) else if nat_lt max_cells b then Some (Cells, max_cells) else if nat_lt max_values v
+    then Some (Values, max_values) else if nat_lt (max_number + 1) n then Some (Numbers, max_number) else None) (le-ltb max_objects a few_objects)
+    ∙ ap (λ t. if t then Some (Cells, max_cells) else if nat_lt max_values v then Some (Values, max_values) else if nat_lt (max_number + 1) n
+    then Some (Numbers, max_number) else None) (le-ltb max_cells b few_cells)
     ∙ ap (λ t. if t then Some (Values, max_values) else if nat_lt (max_number + 1) n then Some (Numbers, max_number) else None) (lt-ltb max_values v many)
 
 pub none_full : (a b v n : ℕ) → a ≤ max_objects → b ≤ max_cells → v ≤ max_values → n ≤ max_number + 1 → full_of a b v n ≡ None
 none_full a b v n few_objects few_cells few_values few_numbers =
-    ap (λ t. if t then Some (Objects, max_objects) else if nat_lt max_cells b then Some (Cells, max_cells) else if nat_lt max_values v then Some (Values, max_values) else if nat_lt (max_number + 1) n then Some (Numbers, max_number) else None) (le-ltb max_objects a few_objects)
-    ∙ ap (λ t. if t then Some (Cells, max_cells) else if nat_lt max_values v then Some (Values, max_values) else if nat_lt (max_number + 1) n then Some (Numbers, max_number) else None) (le-ltb max_cells b few_cells)
+    ap (λ t. if t then Some (Objects, max_objects) else if nat_lt max_cells b then Some (Cells, max_cells) else if nat_lt max_values v
+    then Some (Values, max_values) else if nat_lt (max_number + 1) n then Some (Numbers, max_number) else None) (le-ltb max_objects a few_objects)
+    ∙ ap (λ t. if t then Some (Cells, max_cells) else if nat_lt max_values v then Some (Values, max_values) else if nat_lt (max_number + 1) n
+    then Some (Numbers, max_number) else None) (le-ltb max_cells b few_cells)
     ∙ ap (λ t. if t then Some (Values, max_values) else if nat_lt (max_number + 1) n then Some (Numbers, max_number) else None) (le-ltb max_values v few_values)
     ∙ ap (λ t. if t then Some (Numbers, max_number) else None) (le-ltb (max_number + 1) n few_numbers)
 
@@ -85,7 +89,8 @@ module _ (t : Table) (sound : IsSound t) (o c : ℕ) (set : List Value) (k : ℕ
   held = set_found o c t.cells k r f
 
   module _ (nodes : List Node) (m : IsMoment nodes (moment t)) where
-    pub moment_after : (v : ℕ) → HoldsKind (state_of t) (record { object = o; column = c; set = set }) (column_of nodes c) → v + length r.set ≡ t.counters.values + length set → v ≤ max_values → IsMoment nodes (moment (after v))
+    pub moment_after : (v : ℕ) → HoldsKind (state_of t) (record { object = o; column = c; set = set }) (column_of nodes c) →
+        v + length r.set ≡ t.counters.values + length set → v ≤ max_values → IsMoment nodes (moment (after v))
     moment_after v typed counted few =
         let e = values_after in
         let small : stored_values (with_set (state_of t) o c set).cells ≤ max_values = omega (arith, e, counted, few) in
@@ -95,18 +100,24 @@ module _ (t : Table) (sound : IsSound t) (o c : ℕ) (set : List Value) (k : ℕ
           cells = m.cells;
         }
 
-    pub full_after : (v : ℕ) → v + length r.set ≡ t.counters.values + length set → max_values < v → first_full (book nodes (with_set (state_of t) o c set)) ≡ Some (Values, max_values)
+    pub full_after : (v : ℕ) → v + length r.set ≡ t.counters.values + length set → max_values < v →
+        first_full (book nodes (with_set (state_of t) o c set)) ≡ Some (Values, max_values)
     full_after v counted many =
         let e = values_after in
-        values_full _ _ (stored_values (with_set (state_of t) o c set).cells) _ m.well_formed.few_objects m.well_formed.few_cells (omega (arith, e, counted, many))
+        values_full _ _ (stored_values (with_set (state_of t) o c set).cells) _ m.well_formed.few_objects m.well_formed.few_cells
+        (omega (arith, e, counted, many))
 
-    pub room_after : (v : ℕ) → v + length r.set ≡ t.counters.values + length set → v ≤ max_values → first_full (book nodes (with_set (state_of t) o c set)) ≡ None
+    pub room_after : (v : ℕ) → v + length r.set ≡ t.counters.values + length set → v ≤ max_values →
+        first_full (book nodes (with_set (state_of t) o c set)) ≡ None
     room_after v counted few =
         let e = values_after in
-        none_full _ _ (stored_values (with_set (state_of t) o c set).cells) _ m.well_formed.few_objects m.well_formed.few_cells (omega (arith, e, counted, few)) m.well_formed.few_numbers
+        none_full _ _ (stored_values (with_set (state_of t) o c set).cells) _ m.well_formed.few_objects m.well_formed.few_cells (omega (arith, e, counted, few))
+        m.well_formed.few_numbers
 
 -- a state cell of a live object has a row
-pub cell_found : (nodes : List Node) (t : Table) (o c : ℕ) (set : List Value) → IsMoment nodes (moment t) → IsSome (object_at (state_of t).objects o) → column_in (object_at (state_of t).objects o) ≡ above_of nodes c → HoldsKind (state_of t) (record { object = o; column = c; set = set }) (column_of nodes c) → position (is_set o c) t.cells ≡ None → ⊥
+pub cell_found : (nodes : List Node) (t : Table) (o c : ℕ) (set : List Value) → IsMoment nodes (moment t) → IsSome (object_at (state_of t).objects o) →
+    column_in (object_at (state_of t).objects o) ≡ above_of nodes c →
+    HoldsKind (state_of t) (record { object = o; column = c; set = set }) (column_of nodes c) → position (is_set o c) t.cells ≡ None → ⊥
 cell_found nodes t o c set m live under typed none =
     let x = some_of (object_at (state_of t).objects o) live in
     let column = state_column (state_of t) (record { object = o; column = c; set = set }) (column_of nodes c) typed in
@@ -115,7 +126,8 @@ cell_found nodes t o c set m live under typed none =
     row_there o c t.cells (subst (λ l. IsIn (o, c) l) (sym m.well_formed.cells) there) (none_at (is_set o c) t.cells none)
 
 -- the values after, as they are counted
-pub counted_as : (t : Table) (sound : IsSound t) (o c : ℕ) (k : ℕ) (r : SetRow) (f : FirstAt (is_set o c) t.cells k r) (values old new : ℕ) → values ≡ t.counters.values → old ≡ length r.set → (values - old + new) + length r.set ≡ t.counters.values + new
+pub counted_as : (t : Table) (sound : IsSound t) (o c : ℕ) (k : ℕ) (r : SetRow) (f : FirstAt (is_set o c) t.cells k r) (values old new : ℕ) →
+    values ≡ t.counters.values → old ≡ length r.set → (values - old + new) + length r.set ≡ t.counters.values + new
 counted_as t sound o c k r f values old new e g =
     let less = old_counted t sound o c [] k r f in
     omega (arith, e, g, less)

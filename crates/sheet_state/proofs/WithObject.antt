@@ -1,5 +1,6 @@
 -- A workbook with an object more.
-use Rattle.std.proofs.Common.{◌≡◌, refl, sym, ap, ◌∙◌, subst, ℕ, ◌+◌, ◌<◌, ◌≤◌, suc, Bool, true, false, List, [], ◌∷◌, ◌++◌, length, arith, Option, Some, None, inl, inr, ⊎_elim}
+use Rattle.std.proofs.Common.{◌≡◌, refl, sym, ap, ◌∙◌, subst, ℕ, ◌+◌, ◌<◌, ◌≤◌, suc, Bool, true, false, List, [], ◌∷◌, ◌++◌, length, arith, Option, Some, None}
+use Rattle.std.proofs.Common.{inl, inr, ⊎_elim}
 use Rattle.std.specs.Prelude.{◌==◌, if◌then◌else◌, map, IsSome, nat_lt, slice_get, option_map}
 use Rattle.std.specs.List.{enumerate_from, AllByRecursion}
 use Rattle.std.specs.declared.cmp.Ordering.{Ordering}
@@ -20,7 +21,8 @@ use Rattle.sheet_columns.specs.declared.tree.Column.TheVariants as column
 use Rattle.sheet_columns.specs.declared.tree.Node.{Node}
 use Rattle.sheet_meaning.specs.Changes.{with_object, first_set}
 use Rattle.sheet_meaning.specs.Workbook.{object_at, column_in}
-use Rattle.sheet_meaning.specs.WellFormed.{StateColumn, as_state, state_columns, state_cells, IsUnder, HasKind, HoldsKind, IsWellFormed, stored_values, cell_count, max_objects, max_cells, max_values, max_number}
+use Rattle.sheet_meaning.specs.WellFormed.{StateColumn, as_state, state_columns, state_cells, IsUnder, HasKind, HoldsKind, IsWellFormed, stored_values}
+use Rattle.sheet_meaning.specs.WellFormed.{cell_count, max_objects, max_cells, max_values, max_number}
 use Rattle.sheet_meaning.specs.declared.refusal.Which.{Which}
 use Rattle.sheet_meaning.specs.declared.workbook.LiveObject.{LiveObject}
 use Rattle.sheet_meaning.specs.declared.workbook.StoredCell.{StoredCell}
@@ -64,7 +66,8 @@ unborn n (x ∷ xs) h =
       | false ↦ λ e. unborn n xs h.1
     ] refl
 
-pub rising_push : {A : Type 0} (cmp : A → A → Ordering) (xs : List A) (y : A) → IsRising cmp xs → AllByRecursion (λ x. cmp x y ≡ Less) xs → IsRising cmp (xs ++ y ∷ [])
+pub rising_push : {A : Type 0} (cmp : A → A → Ordering) (xs : List A) (y : A) → IsRising cmp xs → AllByRecursion (λ x. cmp x y ≡ Less) xs →
+    IsRising cmp (xs ++ y ∷ [])
 rising_push cmp [] y r h = (tt, tt)
 rising_push {A} cmp (x ∷ xs) y r h = (below xs r.0, rising_push cmp xs y r.1 h.1)
   where
@@ -88,7 +91,8 @@ pub all_map : {A B : Type 0} (P : B → Type 0) (f : A → B) (xs : List A) → 
 all_map P f [] h = tt
 all_map P f (x ∷ xs) h = (h.0, all_map P f xs h.1)
 
-from_enumerate : {A : Type 0} (xs : List A) (n k : ℕ) (x : A) → IsIn {A = ℕ × A} (k, x) (enumerate_from n xs) → (j : ℕ) × (k ≡ n + j) × (slice_get xs j ≡ Some x)
+from_enumerate : {A : Type 0} (xs : List A) (n k : ℕ) (x : A) → IsIn {A = ℕ × A} (k, x) (enumerate_from n xs) →
+    (j : ℕ) × (k ≡ n + j) × (slice_get xs j ≡ Some x)
 from_enumerate [] n k x i = absurd i
 from_enumerate {A} (y ∷ ys) n k x i =
     ⊎_elim
@@ -108,14 +112,16 @@ state_is k (column.State kind one first) sc e =
 state_is k (column.Formula kind) sc e = cc
 
 -- the state columns under a column are what the tree says
-pub column_is : (nodes : List Node) (c : ℕ) (sc : StateColumn) → IsIn sc (state_columns (schema_of nodes) c) → (n : Node) × (slice_get nodes sc.number ≡ Some n) × (n.column ≡ column.State sc.kind sc.one sc.first)
+pub column_is : (nodes : List Node) (c : ℕ) (sc : StateColumn) → IsIn sc (state_columns (schema_of nodes) c) →
+    (n : Node) × (slice_get nodes sc.number ≡ Some n) × (n.column ≡ column.State sc.kind sc.one sc.first)
 column_is nodes c sc i =
     let f = from_filter_map (λ (x : ℕ × Node). if is_number c x.1.above then as_state x.0 x.1.column else None) (enumerate_from 0 nodes) sc i in
     let k = f.0.0 in
     let n = f.0.1 in
     let at = from_enumerate nodes 0 k n f.1 in
     let here : at.0 ≡ k = let h = at.1 in omega arith in
-    elim (is_number c n.above) as (λ b. (if b then as_state k n.column else None) ≡ Some sc → (m : Node) × (slice_get nodes sc.number ≡ Some m) × (m.column ≡ column.State sc.kind sc.one sc.first)) [
+    elim (is_number c n.above) as (λ b. (if b then as_state k n.column else None) ≡ Some sc →
+    (m : Node) × (slice_get nodes sc.number ≡ Some m) × (m.column ≡ column.State sc.kind sc.one sc.first)) [
       | true ↦ λ h. let s = state_is k n.column sc h in (n, ap (slice_get nodes) (sym s.0) ∙ ap (slice_get nodes) (sym here) ∙ at.2, s.1)
       | false ↦ λ h. cc
     ] f.2
@@ -126,12 +132,14 @@ first_fits s kind.Number (Number n) h = tt
 first_fits s kind.Text (Text t) h = tt
 first_fits s k v h = absurd h
 
-first_held : (s : State) (o k : ℕ) (t : Kind) (one : Bool) (first : Option Value) → HasFittingFirst (column.State t one first) → HoldsKind s (record { object = o; column = k; set = first_set first }) (Some (column.State t one first))
+first_held : (s : State) (o k : ℕ) (t : Kind) (one : Bool) (first : Option Value) → HasFittingFirst (column.State t one first) →
+    HoldsKind s (record { object = o; column = k; set = first_set first }) (Some (column.State t one first))
 first_held s o k t one None h = (tt, tt)
 first_held s o k t one (Some v) h = ((tt, tt), (first_fits s t v h, tt))
 
 -- a new cell has its column's type
-pub new_typed : (nodes : List Node) → IsTree nodes → (s : State) (o c : ℕ) (sc : StateColumn) → IsIn sc (state_columns (schema_of nodes) c) → HoldsKind s (record { object = o; column = sc.number; set = first_set sc.first }) (column_of nodes sc.number)
+pub new_typed : (nodes : List Node) → IsTree nodes → (s : State) (o c : ℕ) (sc : StateColumn) → IsIn sc (state_columns (schema_of nodes) c) →
+    HoldsKind s (record { object = o; column = sc.number; set = first_set sc.first }) (column_of nodes sc.number)
 new_typed nodes tree s o c sc i =
     let n = column_is nodes c sc i in
     let is : column_of nodes sc.number ≡ Some (column.State sc.kind sc.one sc.first) = ap (option_map (λ (m : Node). m.column)) n.1 ∙ ap Some n.2 in
@@ -154,7 +162,8 @@ none_passed a b v n e =
     let numbers = unpassed {A = Which × ℕ} (max_number + 1) n _ _ values.1 in
     (objects.0, cells.0, values.0, numbers.0)
 
-module _ (nodes : List Node) (tree : IsTree nodes) (s : State) (w : IsWellFormed (book nodes s)) (c p : ℕ) (live : IsSome (object_at s.objects p)) (under : column_in (object_at s.objects p) ≡ above_of nodes c) (is : column_of nodes c ≡ Some column.Object) where
+module _ (nodes : List Node) (tree : IsTree nodes) (s : State) (w : IsWellFormed (book nodes s)) (c p : ℕ) (live : IsSome (object_at s.objects p))
+    (under : column_in (object_at s.objects p) ≡ above_of nodes c) (is : column_of nodes c ≡ Some column.Object) where
   abbrev after : State
   after = with_object (schema_of nodes) s c p
 
@@ -176,7 +185,9 @@ module _ (nodes : List Node) (tree : IsTree nodes) (s : State) (w : IsWellFormed
       let column : column_in (object_at s.objects p) ≡ Some x.0.column = ap column_in x.1 in
       (subst (λ n. n < s.next) l.1 drawn, is, (x.0.column, sym under ∙ column, keeps.column p x.0.column column))
 
-  new_keys : (scs : List StateColumn) → map key (map (λ (k : StateColumn). record { object = s.next; column = k.number; set = first_set k.first }) scs) ≡ map (λ (k : StateColumn). (s.next, k.number)) scs
+  new_keys : (scs : List StateColumn) →
+      map key (map (λ (k : StateColumn). record { object = s.next; column = k.number; set = first_set k.first }) scs) ≡ map
+      (λ (k : StateColumn). (s.next, k.number)) scs
   new_keys [] = refl
   new_keys (k ∷ ks) = ap (λ l. (s.next, k.number) ∷ l) (new_keys ks)
 
@@ -188,10 +199,12 @@ module _ (nodes : List Node) (tree : IsTree nodes) (s : State) (w : IsWellFormed
         root = found_kept s.objects (new ∷ []) 0 (record { number = 0; column = 0; parent = None }) w.root;
         rising =
             rising_push (on (λ (x : LiveObject). x.number) nat_cmp) s.objects new w.rising
-            (all_mono (λ (x : LiveObject). x.number < s.next) (λ (x : LiveObject). nat_cmp x.number s.next ≡ Less) (λ x h. sym (nat_cmp_is x.number s.next Less h)) s.objects w.drawn);
+            (all_mono (λ (x : LiveObject). x.number < s.next) (λ (x : LiveObject). nat_cmp x.number s.next ≡ Less)
+            (λ x h. sym (nat_cmp_is x.number s.next Less h)) s.objects w.drawn);
         under =
             all_push (λ (x : LiveObject). IsUnder (book nodes after) x x.parent) s.objects new
-            (all_mono (λ (x : LiveObject). IsUnder (book nodes s) x x.parent) (λ (x : LiveObject). IsUnder (book nodes after) x x.parent) (λ x h. still_under x x.parent h) s.objects w.under)
+            (all_mono (λ (x : LiveObject). IsUnder (book nodes s) x x.parent) (λ (x : LiveObject). IsUnder (book nodes after) x x.parent)
+            (λ x h. still_under x x.parent h) s.objects w.under)
             new_under;
         drawn =
             all_push (λ (x : LiveObject). x.number < s.next + 1) s.objects new
@@ -201,12 +214,17 @@ module _ (nodes : List Node) (tree : IsTree nodes) (s : State) (w : IsWellFormed
             map-append key s.cells (map (λ (k : StateColumn). record { object = s.next; column = k.number; set = first_set k.first }) scs)
             ∙ ap (λ l. l ++ map key (map (λ (k : StateColumn). record { object = s.next; column = k.number; set = first_set k.first }) scs)) w.cells
             ∙ ap (λ l. state_cells (book nodes s) ++ l) (new_keys scs ∙ sym (append-nil (map (λ (k : StateColumn). (s.next, k.number)) scs)))
-            ∙ sym (flat_map-append (λ (x : LiveObject). map (λ (k : StateColumn). (x.number, k.number)) (state_columns (schema_of nodes) x.column)) s.objects (new ∷ []));
+            ∙ sym (flat_map-append (λ (x : LiveObject). map (λ (k : StateColumn). (x.number, k.number)) (state_columns (schema_of nodes) x.column)) s.objects
+            (new ∷ []));
         typed =
-            all_both (λ (x : StoredCell). HoldsKind after x (column_of nodes x.column)) s.cells (map (λ (k : StateColumn). record { object = s.next; column = k.number; set = first_set k.first }) scs)
-            (all_mono (λ (x : StoredCell). HoldsKind s x (column_of nodes x.column)) (λ (x : StoredCell). HoldsKind after x (column_of nodes x.column)) (λ x h. holds_kept s after keeps x (column_of nodes x.column) h) s.cells w.typed)
-            (all_map (λ (x : StoredCell). HoldsKind after x (column_of nodes x.column)) (λ (k : StateColumn). record { object = s.next; column = k.number; set = first_set k.first }) scs
-            (all_from (λ (k : StateColumn). HoldsKind after (record { object = s.next; column = k.number; set = first_set k.first }) (column_of nodes k.number)) scs (λ k i. new_typed nodes tree after s.next c k i)));
+            all_both (λ (x : StoredCell). HoldsKind after x (column_of nodes x.column)) s.cells
+            (map (λ (k : StateColumn). record { object = s.next; column = k.number; set = first_set k.first }) scs)
+            (all_mono (λ (x : StoredCell). HoldsKind s x (column_of nodes x.column)) (λ (x : StoredCell). HoldsKind after x (column_of nodes x.column))
+            (λ x h. holds_kept s after keeps x (column_of nodes x.column) h) s.cells w.typed)
+            (all_map (λ (x : StoredCell). HoldsKind after x (column_of nodes x.column))
+            (λ (k : StateColumn). record { object = s.next; column = k.number; set = first_set k.first }) scs
+            (all_from (λ (k : StateColumn). HoldsKind after (record { object = s.next; column = k.number; set = first_set k.first }) (column_of nodes k.number))
+            scs (λ k i. new_typed nodes tree after s.next c k i)));
         few_objects = few.0;
         few_cells = few.1;
         few_values = few.2;

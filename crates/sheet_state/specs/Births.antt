@@ -24,17 +24,21 @@ use Rattle.sheet_state.specs.Kept.{schema_of, as_extent, object_columns}
 abbrev pub child_at : List Node → ℕ → ℕ → Option Column
 child_at nodes c k = if is_number c (above_of nodes k) then column_of nodes k else None
 
+-- the state column with a number, where it stands directly under this one
 abbrev pub state_at : List Node → ℕ → ℕ → Option StateColumn
 state_at nodes c k = option_and_then (as_state k) (child_at nodes c k)
 
+-- the object column with a number, where it stands directly under this one
 abbrev pub extent_at : List Node → ℕ → ℕ → Option ℕ
 extent_at nodes c k = option_and_then (as_extent k) (child_at nodes c k)
 
+-- the number of a column, where it is a formula column
 abbrev pub is_formula : ℕ → Column → Option ℕ
 is_formula k column.Object = None
 is_formula k (column.State kind one first) = None
 is_formula k (column.Formula kind) = Some k
 
+-- the formula column with a number, where it stands directly under this one
 abbrev pub formula_at : List Node → ℕ → ℕ → Option ℕ
 formula_at nodes c k = option_and_then (is_formula k) (child_at nodes c k)
 
@@ -54,6 +58,7 @@ live_row o c set = record { object = o; column = c; live = true; set = set }
 abbrev pub new_cell : ℕ → StateColumn → SetRow
 new_cell o k = record { object = o; column = k.number; live = true; set = first_set k.first }
 
+-- the row of a new extent, which is empty
 abbrev pub new_extent : ℕ → ℕ → SetRow
 new_extent o k = record { object = o; column = k; live = true; set = [] }
 
@@ -62,6 +67,7 @@ abbrev pub first_item : ℕ → ℕ → Option Value → Option Item
 first_item o k None = None
 first_item o k (Some v) = Some (Stored o k)
 
+-- the item of a new state cell, where that doesn't start empty
 abbrev pub item_of : ℕ → StateColumn → Option Item
 item_of o k = first_item o k.number k.first
 

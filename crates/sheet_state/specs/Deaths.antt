@@ -33,6 +33,7 @@ swept d r =
 abbrev pub object_row : List ObjectRow → ℕ → ObjectRow
 object_row rows k = slice_index_or rows k (record { number = 0; column = 0; parent = None; live = false })
 
+-- the row of a set at a place
 abbrev pub set_row : List SetRow → ℕ → SetRow
 set_row rows k = slice_index_or rows k (record { object = 0; column = 0; live = false; set = [] })
 
@@ -40,6 +41,7 @@ set_row rows k = slice_index_or rows k (record { object = 0; column = 0; live = 
 abbrev pub lost : List Value → SetRow → ℕ
 lost d r = length r.set - length (swept d r).set
 
+-- the item of the object above, where there is one
 abbrev pub up_items : ℕ → Option ℕ → List Item
 up_items o None = []
 up_items o (Some p) = Up o ∷ []
@@ -56,6 +58,7 @@ swept_items item d r = if nat_lt 0 (lost d r) then item r.object r.column ∷ []
 abbrev pub lost_cells : List Node → List Value → ObjectRow → ℕ
 lost_cells nodes d r = if is_doomed d r then length (state_columns (schema_of nodes) r.column) + length (formula_columns nodes r.column) else 0
 
+-- how many objects go with a row
 abbrev pub lost_objects : List Value → ObjectRow → ℕ
 lost_objects d r = if is_doomed d r then 1 else 0
 

@@ -32,6 +32,7 @@ schema_of nodes = record { columns = nodes; formulas = filter_map (λ (x : ℕ �
 abbrev pub book : List Node → State → Workbook
 book nodes s = record { schema = schema_of nodes; state = s }
 
+-- the number of a column, where it is an object column
 abbrev pub as_extent : ℕ → Column → Option ℕ
 as_extent k column.Object = Some k
 as_extent k (column.State kind one first) = None

@@ -26,9 +26,11 @@ live_object r = if r.live then Some (object_of r) else None
 abbrev pub live_cell : SetRow → Option StoredCell
 live_cell r = if r.live then Some (record { object = r.object; column = r.column; set = r.set }) else None
 
+-- the live objects of rows
 abbrev pub objects_in : List ObjectRow → List LiveObject
 objects_in rows = filter_map live_object rows
 
+-- the cells of live objects in rows
 abbrev pub cells_in : List SetRow → List StoredCell
 cells_in rows = filter_map live_cell rows
 
@@ -36,6 +38,7 @@ cells_in rows = filter_map live_cell rows
 abbrev pub state_of : Table → State
 state_of t = record { objects = objects_in t.objects; cells = cells_in t.cells; next = t.counters.next }
 
+-- what a table stands for at a time
 abbrev pub moment : Table → Moment
 moment t = record {
   state = state_of t;
@@ -47,6 +50,7 @@ moment t = record {
 abbrev pub row_cmp : SetRow → SetRow → Ordering
 row_cmp = then_cmp (on (λ (r : SetRow). r.object) nat_cmp) (on (λ (r : SetRow). r.column) nat_cmp)
 
+-- objects are ordered by number
 abbrev pub object_cmp : ObjectRow → ObjectRow → Ordering
 object_cmp = on (λ (r : ObjectRow). r.number) nat_cmp
 
@@ -58,6 +62,7 @@ is_object o r = r.live && r.number == o
 abbrev pub is_set : ℕ → ℕ → SetRow → Bool
 is_set o c r = r.live && (r.object == o && r.column == c)
 
+-- rows that may stand for a state
 pub record IsSound (t : Table) : Type 0 where
   pub objects : IsRising object_cmp t.objects
   pub cells : IsRising row_cmp t.cells

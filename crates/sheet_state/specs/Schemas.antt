@@ -45,5 +45,6 @@ pub record TellsItems (s : Schema) (u : State) (w : World) : Type 0 where
   pub parent : (o : ℕ) → w.parent o ≡ parent_in (object_at u.objects o)
   pub live : (o : ℕ) → w.live o ≡ is_some (column_in (object_at u.objects o))
 
+-- what formulas read of a workbook without its formulas is what its items tell
 abbrev pub WorldsTellItems : Type 0
 WorldsTellItems = (s : Schema) (u : State) (worked : ℕ → ℕ → Outcome (List Value)) → TellsItems s u (world (workbook s u) worked)

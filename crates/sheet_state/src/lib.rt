@@ -24,6 +24,3 @@ pub fn formulas_do_not_matter()
 pub fn worlds_tell_items()
     ensures { WorldsTellItems }
 {}
-
-#[cfg(test)]
-mod tests;

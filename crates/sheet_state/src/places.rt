@@ -12,8 +12,8 @@ ghost use Rattle.sheet_state.specs.Places.{Adds, OfAny, IsRowOf, IsOwnRow, Refer
 ghost use Rattle.sheet_state.specs.Rows.{object_cmp, row_cmp, is_set, objects_in, moment, IsSound};
 
 use crate::lookup::{object_place, set_place};
-use sheet_state_rows::{ObjectRow, SetRow, Tables};
 use sheet_state_references::{References, own_places};
+use sheet_state_rows::{ObjectRow, SetRow, Tables};
 use sheet_values::{NoMemory, Set, Value};
 use std::alloc::Global;
 use std::collections::BTreeSet;

@@ -35,7 +35,8 @@ module _ {A : Type 0} (number : A → ℕ) (parent : A → Option ℕ) (o : ℕ)
           | inr under ↦ at (λ k lt h. reached n k lt h) l.0 l.1 l.3 l.4 (parent l.0) refl under
         ]
       where
-        at : ((k : ℕ) → k < n → family k ≡ true → set k ≡ true) → (x : A) → number x ≡ m → Descends x → Follows x → (q : Option ℕ) → parent x ≡ q → has_parent family q ≡ true → set m ≡ true
+        at : ((k : ℕ) → k < n → family k ≡ true → set k ≡ true) → (x : A) → number x ≡ m → Descends x → Follows x → (q : Option ℕ) → parent x ≡ q →
+            has_parent family q ≡ true → set m ≡ true
         at before x is down follows None p h = cc
         at before x is down follows (Some k) p h =
             let below = down k p in

@@ -6,6 +6,3 @@ mod references;
 
 pub use below::{family_of, own_places};
 pub use references::{Reference, References};
-
-#[cfg(test)]
-mod tests;

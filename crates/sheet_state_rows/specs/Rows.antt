@@ -17,12 +17,15 @@ pub record Table : Type 0 where
 abbrev pub with_objects : Table → List ObjectRow → Table
 with_objects t xs = record t { objects = xs }
 
+-- a table with other rows of state cells
 abbrev pub with_cells : Table → List SetRow → Table
 with_cells t xs = record t { cells = xs }
 
+-- a table with other rows of extents
 abbrev pub with_extents : Table → List SetRow → Table
 with_extents t xs = record t { extents = xs }
 
+-- a table with other counters
 abbrev pub with_counters : Table → Counters → Table
 with_counters t n = record t { counters = n }
 

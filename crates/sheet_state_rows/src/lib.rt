@@ -8,6 +8,3 @@ mod tables;
 
 pub use row::{Counters, ObjectRow, SetRow};
 pub use tables::Tables;
-
-#[cfg(test)]
-mod tests;

@@ -52,7 +52,8 @@ same_column (n ∷ nodes) zero x is = let same : x ≡ n.column = cc in ap (λ y
 same_column (n ∷ nodes) (suc k) x is = ap (λ ms. n ∷ ms) (same_column nodes k x is)
 
 -- a turn of the loop that gives formula columns their types
-pub settled_turn : (kinds : List Kind) (nodes columns new : List Node) (k : ℕ) (x : Column) → columns ≡ first_settled kinds 0 k nodes → column_of columns k ≡ Some x
+pub settled_turn : (kinds : List Kind) (nodes columns new : List Node) (k : ℕ) (x : Column) → columns ≡ first_settled kinds 0 k nodes →
+    column_of columns k ≡ Some x
     → new ≡ with_column columns k (of_kind (slice_index_or kinds k kind.Unknown) x) → new ≡ first_settled kinds 0 (k + 1) nodes
 settled_turn kinds nodes columns new k x so_far is made =
     let at_first : column_of (first_settled kinds 0 k nodes) k ≡ Some x = subst (λ ms. column_of ms k ≡ Some x) so_far is in
@@ -63,13 +64,15 @@ settled_turn kinds nodes columns new k x so_far is made =
     ∙ one_settled kinds 0 k nodes x at_first ∙ ap (λ d. first_settled kinds 0 d nodes) next
 
 -- a formula column is given its type
-pub given : (kinds : List Kind) (columns new : List Node) (k : ℕ) (x : Column) (l found : Kind) → x ≡ column.Formula l → found ≡ slice_index_or kinds k kind.Unknown
+pub given : (kinds : List Kind) (columns new : List Node) (k : ℕ) (x : Column) (l found : Kind) → x ≡ column.Formula l →
+    found ≡ slice_index_or kinds k kind.Unknown
     → new ≡ with_column columns k (column.Formula found) → new ≡ with_column columns k (of_kind (slice_index_or kinds k kind.Unknown) x)
 given kinds columns new k x l found is type made =
     made ∙ ap (λ m. with_column columns k (column.Formula m)) type ∙ ap (λ y. with_column columns k (of_kind (slice_index_or kinds k kind.Unknown) y)) (sym is)
 
 -- another column is left as it is
-pub left : (kinds : List Kind) (columns new : List Node) (k : ℕ) (x : Column) → column_of columns k ≡ Some x → ((l : Kind) → x ≡ column.Formula l → ⊥) → new ≡ columns
+pub left : (kinds : List Kind) (columns new : List Node) (k : ℕ) (x : Column) → column_of columns k ≡ Some x → ((l : Kind) → x ≡ column.Formula l → ⊥) →
+    new ≡ columns
     → new ≡ with_column columns k (of_kind (slice_index_or kinds k kind.Unknown) x)
 left kinds columns new k column.Object there other same = same ∙ sym (same_column columns k column.Object there)
 left kinds columns new k (column.State l one first) there other same = same ∙ sym (same_column columns k (column.State l one first) there)

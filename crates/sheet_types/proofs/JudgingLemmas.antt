@@ -16,7 +16,8 @@ same_formulas : (s t : Bodies) → s ≡ t → length t.formulas ≡ length s.fo
 same_formulas s t same = let e = ap (λ (b : Bodies). length b.formulas) same in omega (arith, e)
 
 -- there is a formula more, or none, for each declared column
-pub judged_grows : (o : Outline) (kinds : List Kind) (s t : Bodies) (d : Declaration) → judge o kinds s d ≡ Ok t → length t.formulas ≡ length s.formulas + length (objects_at d)
+pub judged_grows : (o : Outline) (kinds : List Kind) (s t : Bodies) (d : Declaration) → judge o kinds s d ≡ Ok t →
+    length t.formulas ≡ length s.formulas + length (objects_at d)
 judged_grows o kinds s t (declaration.Callers line p) is = same_formulas s t (same_ok s t is)
 judged_grows o kinds s t (declaration.Column w) is =
     let b = both_ok (column_body o.columns kinds (length s.formulas) (formula_in w.content)) (λ f. Ok (record s { formulas = s.formulas ++ f ∷ [] })) t is in
@@ -34,5 +35,6 @@ judged_grows o kinds s t (declaration.View v) is =
     same_formulas next t (same_ok next t b.2)
 
 -- there is a place for each formula behind a declaration
-pub counted_behind : (d : Declaration) (ds : List Declaration) (count more all : ℕ) → more ≡ count + length (objects_at d) → count + length (objects_at d ++ objects_in ds) ≤ all → more + length (objects_in ds) ≤ all
+pub counted_behind : (d : Declaration) (ds : List Declaration) (count more all : ℕ) → more ≡ count + length (objects_at d) →
+    count + length (objects_at d ++ objects_in ds) ≤ all → more + length (objects_in ds) ≤ all
 counted_behind d ds count more all grown few = let e = length-append (objects_at d) (objects_in ds) in omega (arith, e, grown, few)

@@ -1,5 +1,6 @@
 -- Columns with the types of the last round, which are those of object columns as far as they are of objects.
-use Rattle.std.proofs.Common.{◌≡◌, ℕ, ◌+◌, zero, suc, Bool, true, false, List, [], ◌∷◌, length, map, Option, Some, None, Ok, Err, cond, refl, sym, ap, ◌∙◌, subst, arith}
+use Rattle.std.proofs.Common.{◌≡◌, ℕ, ◌+◌, zero, suc, Bool, true, false, List, [], ◌∷◌, length, map, Option, Some, None, Ok, Err, cond, refl, sym, ap, ◌∙◌}
+use Rattle.std.proofs.Common.{subst, arith}
 use Rattle.std.specs.Prelude.{slice_get, slice_index_or, codes, option_map, option_and_then}
 use Rattle.std.specs.List.{AllByRecursion}
 use Rattle.sheet_values.specs.declared.value.Kind.{Kind}
@@ -36,7 +37,8 @@ still_object k (column.State l one first) is = cc
 still_object k (column.Formula l) is = cc
 
 -- object columns stay object columns
-pub settled_object : (kinds : List Kind) (k : ℕ) (nodes : List Node) (c : ℕ) → column_of nodes c ≡ Some column.Object → column_of (with_kinds kinds k nodes) c ≡ Some column.Object
+pub settled_object : (kinds : List Kind) (k : ℕ) (nodes : List Node) (c : ℕ) → column_of nodes c ≡ Some column.Object →
+    column_of (with_kinds kinds k nodes) c ≡ Some column.Object
 settled_object kinds k [] c is = is
 settled_object kinds k (n ∷ nodes) zero is = still_object (slice_index_or kinds k kind.Unknown) n.column is
 settled_object kinds k (n ∷ nodes) (suc c) is = settled_object kinds (k + 1) nodes c is
@@ -62,16 +64,20 @@ kind_at n [] c all = tt
 kind_at n (k ∷ ks) zero all = all.0
 kind_at n (k ∷ ks) (suc c) all = kind_at n ks c all.1
 
-settled_column : (kinds : List Kind) (nodes : List Node) (k : Kind) (x : Column) → IsKindIn nodes k → IsHeldIn nodes x → IsHeldIn (with_kinds kinds 0 nodes) (of_kind k x)
+settled_column : (kinds : List Kind) (nodes : List Node) (k : Kind) (x : Column) → IsKindIn nodes k → IsHeldIn nodes x →
+    IsHeldIn (with_kinds kinds 0 nodes) (of_kind k x)
 settled_column kinds nodes k column.Object found held = tt
 settled_column kinds nodes k (column.State l one first) found held = settled_kind kinds nodes l held
 settled_column kinds nodes k (column.Formula l) found held = settled_kind kinds nodes k found
 
-settled_from : (kinds : List Kind) (nodes : List Node) → AreAllKindsIn nodes kinds → (c : ℕ) (ms : List Node) → AllByRecursion (λ (m : Node). IsHeldIn nodes m.column) ms
+settled_from : (kinds : List Kind) (nodes : List Node) → AreAllKindsIn nodes kinds → (c : ℕ) (ms : List Node) →
+    AllByRecursion (λ (m : Node). IsHeldIn nodes m.column) ms
     → AllByRecursion (λ (m : Node). IsHeldIn (with_kinds kinds 0 nodes) m.column) (with_kinds kinds c ms)
 settled_from kinds nodes found c [] held = tt
-settled_from kinds nodes found c (m ∷ ms) held =
-    (settled_column kinds nodes (slice_index_or kinds c kind.Unknown) m.column (kind_at nodes kinds c found) held.0, settled_from kinds nodes found (c + 1) ms held.1)
+settled_from kinds nodes found c (m ∷ ms) held = (
+  settled_column kinds nodes (slice_index_or kinds c kind.Unknown) m.column (kind_at nodes kinds c found) held.0,
+  settled_from kinds nodes found (c + 1) ms held.1,
+)
 
 -- what columns hold is within them, with other types of formula columns too
 pub settled_columns : (kinds : List Kind) (nodes : List Node) → AreAllKindsIn nodes kinds → AllByRecursion (λ (m : Node). IsHeldIn nodes m.column) nodes
@@ -96,7 +102,8 @@ own_kind nodes c column.Object is held = is
 own_kind nodes c (column.State k one first) is held = held
 own_kind nodes c (column.Formula k) is held = held
 
-own_kinds : (nodes : List Node) (c : ℕ) (ms : List Node) → AreFrom nodes c ms → AllByRecursion (λ (m : Node). IsHeldIn nodes m.column) ms → AreAllKindsIn nodes (kinds_from c ms)
+own_kinds : (nodes : List Node) (c : ℕ) (ms : List Node) → AreFrom nodes c ms → AllByRecursion (λ (m : Node). IsHeldIn nodes m.column) ms →
+    AreAllKindsIn nodes (kinds_from c ms)
 own_kinds nodes c [] from held = tt
 own_kinds nodes c (m ∷ ms) from held =
     (own_kind nodes c m.column (first_is nodes c m ms from) held.0, own_kinds nodes (c + 1) ms (from_next nodes c m ms from) held.1)
@@ -109,7 +116,8 @@ home_under : (nodes : List Node) (c : ℕ) (above : Option ℕ) → IsTree nodes
 home_under nodes c None tree under = root_object nodes tree
 home_under nodes c (Some a) tree under = under.1
 
-home_from : (nodes : List Node) (c : ℕ) (o : Option Node) → IsTree nodes → slice_get nodes c ≡ o → column_of nodes (home_at (option_and_then (λ (n : Node). n.above) o)) ≡ Some column.Object
+home_from : (nodes : List Node) (c : ℕ) (o : Option Node) → IsTree nodes → slice_get nodes c ≡ o →
+    column_of nodes (home_at (option_and_then (λ (n : Node). n.above) o)) ≡ Some column.Object
 home_from nodes c None tree is = root_object nodes tree
 home_from nodes c (Some m) tree is = home_under nodes c m.above tree (tree.placed c m is)
 
@@ -121,13 +129,15 @@ chosen nodes true k l this other = this
 chosen nodes false k l this other = other
 
 module _ (haves : FormulasHaveKinds) (within : KindsAreWithin) (nodes : List Node) (tree : IsTree nodes) where
-  told_within : (kinds : List Kind) (c : ℕ) (e : Tree) (r : Answer Typed) → AreAllKindsIn nodes kinds → typed e (at_column nodes kinds c) ≡ r → IsKindIn nodes (kind_told r)
+  told_within : (kinds : List Kind) (c : ℕ) (e : Tree) (r : Answer Typed) → AreAllKindsIn nodes kinds → typed e (at_column nodes kinds c) ≡ r →
+      IsKindIn nodes (kind_told r)
   told_within kinds c e (Err x) all is = tt
   told_within kinds c e (Ok t) all is =
       within t.core nodes kinds (kind.Object (home nodes c) ∷ []) t.kind tree all (home_object nodes c tree, tt)
       (haves nodes kinds (record { name = codes "this"; kind = kind.Object (home nodes c) } ∷ []) e t is)
 
-  next_within : (kinds : List Kind) (c : ℕ) (e : Option Tree) (k : Kind) → AreAllKindsIn nodes kinds → IsKindIn nodes k → IsKindIn nodes (next_kind nodes kinds c e k)
+  next_within : (kinds : List Kind) (c : ℕ) (e : Option Tree) (k : Kind) → AreAllKindsIn nodes kinds → IsKindIn nodes k →
+      IsKindIn nodes (next_kind nodes kinds c e k)
   next_within kinds c None k all here = here
   next_within kinds c (Some e) k all here =
       chosen nodes (is_unknown k) (kind_told (typed e (at_column nodes kinds c))) k (told_within kinds c e (typed e (at_column nodes kinds c)) all refl) here
@@ -138,7 +148,8 @@ module _ (haves : FormulasHaveKinds) (within : KindsAreWithin) (nodes : List Nod
       (next_within kinds c e (slice_index_or kinds c kind.Unknown) all (kind_at nodes kinds c all), nexts_within kinds (c + 1) es all)
 
   -- the types that rounds find are those of object columns
-  pub rounds_within : (formulas : List (Option Tree)) (n : ℕ) (kinds : List Kind) → AreAllKindsIn nodes kinds → AreAllKindsIn nodes (rounds n nodes formulas kinds)
+  pub rounds_within : (formulas : List (Option Tree)) (n : ℕ) (kinds : List Kind) → AreAllKindsIn nodes kinds →
+      AreAllKindsIn nodes (rounds n nodes formulas kinds)
   rounds_within formulas zero kinds all = all
   rounds_within formulas (suc n) kinds all = rounds_within formulas n (round nodes formulas kinds) (nexts_within kinds 0 formulas all)
 
@@ -152,7 +163,8 @@ form_stays k (column.State l one first) = refl
 form_stays k (column.Formula l) = refl
 
 -- forms stay
-pub settled_forms : (kinds : List Kind) (c : ℕ) (ms : List Node) → map (λ (m : Node). form m.column) (with_kinds kinds c ms) ≡ map (λ (m : Node). form m.column) ms
+pub settled_forms : (kinds : List Kind) (c : ℕ) (ms : List Node) →
+    map (λ (m : Node). form m.column) (with_kinds kinds c ms) ≡ map (λ (m : Node). form m.column) ms
 settled_forms kinds c [] = refl
 settled_forms kinds c (m ∷ ms) =
     ap (λ x. x ∷ map (λ (n : Node). form n.column) (with_kinds kinds (c + 1) ms)) (form_stays (slice_index_or kinds c kind.Unknown) m.column)

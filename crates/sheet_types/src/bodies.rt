@@ -6,13 +6,13 @@ ghost use Rattle.sheet_types_outline.specs.Steps.{Leaves};
 ghost use Rattle.sheet_types.specs.Elaboration.{add_column as with_column_body, with_procedure, with_view, judge as judge_declaration, no_bodies, all_judged};
 
 use crate::columns::column_body;
-use sheet_types_bodies::{resolve_procedure, resolve_view};
 use sheet_books::{Procedure, View};
 use sheet_columns::{Core, Parameters, Sequence};
 use sheet_define_data::{Column, Declaration};
+use sheet_types_bodies::{resolve_procedure, resolve_view};
+use sheet_types_formulas::TypeRefusal;
 use sheet_types_outline::Outline;
 use sheet_types_rounds::formula_in;
-use sheet_types_formulas::TypeRefusal;
 use sheet_values::{Kind, Name, NoMemory};
 use std::alloc::Global;
 

@@ -5,8 +5,6 @@ mod bodies;
 mod columns;
 mod elaboration;
 mod law;
-#[cfg(test)]
-mod tests;
 
 pub use elaboration::elaborate;
 pub use law::books_are_well_typed;

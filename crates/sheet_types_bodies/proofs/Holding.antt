@@ -6,11 +6,13 @@ use Rattle.sheet_values.specs.declared.value.Kind.TheVariants as kind
 use Rattle.sheet_columns.specs.declared.tree.Node.{Node}
 use Rattle.sheet_columns.specs.declared.formula.Core.{Core}
 use Rattle.sheet_columns.specs.declared.statement.Change.TheVariants as change
-use Rattle.sheet_columns.specs.declared.statement.CoreStatement.{CoreStatement, Row_of-CoreStatement, end_of-CoreStatement, more_of-CoreStatement, items-the_row-CoreStatement, items_hidden-the_row-CoreStatement-0}
+use Rattle.sheet_columns.specs.declared.statement.CoreStatement.{CoreStatement, Row_of-CoreStatement, end_of-CoreStatement, more_of-CoreStatement}
+use Rattle.sheet_columns.specs.declared.statement.CoreStatement.{items-the_row-CoreStatement, items_hidden-the_row-CoreStatement-0}
 use Rattle.sheet_columns.specs.declared.statement.CoreStatement.TheVariants as core
 use Rattle.sheet_columns.specs.declared.statement.CoreStatement.TheBlock.{hidden-the_row-CoreStatement-0}
 use Rattle.sheet_define_data.specs.declared.statement.Statement.TheBlock.{hidden-the_row-Statement-0}
-use Rattle.sheet_define_data.specs.declared.statement.Statement.{Statement, Let, Set, Add, Remove, New, Delete, Check, Reply, If', IfElse', For', Row_of-Statement, end_of-Statement as end, more_of-Statement as more}
+use Rattle.sheet_define_data.specs.declared.statement.Statement.{Statement, Let, Set, Add, Remove, New, Delete, Check, Reply, If', IfElse', For'}
+use Rattle.sheet_define_data.specs.declared.statement.Statement.{Row_of-Statement, end_of-Statement as end, more_of-Statement as more}
 use Rattle.sheet_types_formulas.specs.declared.scope.Variable.{Variable}
 use Rattle.sheet_types_formulas.specs.Answers.{◌>>=◌}
 use Rattle.sheet_types_formulas.specs.Names.{reach, bind}
@@ -20,14 +22,16 @@ use Rattle.sheet_types_bodies.specs.Statements.{Step, Block, block, before, form
 use Rattle.sheet_types_rules.specs.Statements.{where_so, suits, behind, behind_all, behind_list, numbered, numbered_all, numbered_list}
 use Rattle.sheet_types_bodies.specs.Rules.{StatementsAreTyped}
 use Rattle.sheet_types_bodies.proofs.Blocks.{as_list}
-use Rattle.sheet_types_bodies.proofs.WellTyped.{HaveKinds, Fits, kinds_of, map_one, came_from, ok_same, formula_suits, counts_on, let_fits, change_fits, new_fits, delete_fits, check_fits, reply_fits}
+use Rattle.sheet_types_bodies.proofs.WellTyped.{HaveKinds, Fits, kinds_of, map_one, came_from, ok_same, formula_suits, counts_on, let_fits, change_fits}
+use Rattle.sheet_types_bodies.proofs.WellTyped.{new_fits, delete_fits, check_fits, reply_fits}
 
 -- second steps that are the same
 next_same : {A B : Type 0} (o : Option A) (f g : A → Option B) → ((x : A) → f x ≡ g x) → o >> f ≡ o >> g
 next_same (Some x) f g h = h x
 next_same None f g h = refl
 
-each_behind : {m : _} (row : Row_of-CoreStatement m) (n : List Node) (k v : List Kind) → behind_all row n k v ≡ behind_list (items-the_row-CoreStatement m row) n k v
+each_behind : {m : _} (row : Row_of-CoreStatement m) (n : List Node) (k v : List Kind) →
+    behind_all row n k v ≡ behind_list (items-the_row-CoreStatement m row) n k v
 each_behind end_of-CoreStatement n k v = refl
 each_behind (more_of-CoreStatement x rest) n k v =
     next_same (behind x n k v) (λ u. behind_all rest n k u) (λ u. behind_list (items-the_row-CoreStatement _ rest) n k u) (λ u. each_behind rest n k u)
@@ -53,7 +57,8 @@ if_positions : (n : List Node) (k v : List Kind) (i : ℕ) (c : Core) (xs ys : L
     → suits kind.Truth (kind_in c n k v) ≡ true → behind_list xs n k v ≡ Some u → behind_list ys n k v ≡ Some w
     → behind (core.If i c (record { list = xs }) (record { list = ys })) n k v ≡ Some v
 if_positions n k v i c xs ys u w s x y =
-    ap (λ b. where_so b v >> (λ t. behind_all (hidden-the_row-CoreStatement-0 xs) n k v >> (λ a. behind_all (hidden-the_row-CoreStatement-0 ys) n k v >> (λ d. Some v)))) s
+    ap (λ b. where_so b v >>
+    (λ t. behind_all (hidden-the_row-CoreStatement-0 xs) n k v >> (λ a. behind_all (hidden-the_row-CoreStatement-0 ys) n k v >> (λ d. Some v)))) s
     ∙ ap (λ o. o >> (λ a. behind_all (hidden-the_row-CoreStatement-0 ys) n k v >> (λ d. Some v))) (all_behind xs n k v ∙ x)
     ∙ ap (λ o. o >> (λ d. Some v)) (all_behind ys n k v ∙ y)
 
@@ -76,7 +81,8 @@ for_numbers : (i j : ℕ) (e : Core) (xs : List CoreStatement) → numbered_list
 for_numbers i j e xs x = ap (λ o. o >> (λ a. numbered_all (hidden-the_row-CoreStatement-0 xs) a)) (counts_on i) ∙ all_numbered xs (i + 1) ∙ x
 
 mutual
-  pub statement_fits : HaveKinds → (x : Statement) (n : List Node) (k : List Kind) (v : List Variable) (i : ℕ) (s : Step) → statement x (reach n k v) i ≡ Ok s → Fits n k v i s
+  pub statement_fits : HaveKinds → (x : Statement) (n : List Node) (k : List Kind) (v : List Variable) (i : ℕ) (s : Step) → statement x (reach n k v) i ≡ Ok s →
+      Fits n k v i s
   statement_fits law (Let line x e) n k v i s h = let_fits law n k v x e i s h
   statement_fits law (Set line t e) n k v i s h = change_fits law n k v change.Set t e i s h
   statement_fits law (Add line e t) n k v i s h = change_fits law n k v change.Add t e i s h
@@ -98,7 +104,8 @@ mutual
       })
   statement_fits law (IfElse' line e _ body _ otherwise) n k v i s h =
       let r = reach n k v in
-      let a = came_from (formula_of kind.Truth e r) (λ c. statements body r (i + 1) >>= (λ b. statements otherwise r b.next >>= (λ o. Ok (if_else_of r i c b o)))) s h in
+      let a = came_from (formula_of kind.Truth e r)
+      (λ c. statements body r (i + 1) >>= (λ b. statements otherwise r b.next >>= (λ o. Ok (if_else_of r i c b o)))) s h in
       let b = came_from (statements body r (i + 1)) (λ x. statements otherwise r x.next >>= (λ o. Ok (if_else_of r i a.0 x o))) s a.2 in
       let o = came_from (statements otherwise r b.0.next) (λ x. Ok (if_else_of r i a.0 b.0 x)) s b.2 in
       let f = block_fits law body n k v (i + 1) b.0 b.1 in
@@ -124,7 +131,8 @@ mutual
         numbers = for_numbers i b.0.next a.0.core b.0.list f.numbers;
       })
 
-  pub block_fits : {m : _} → HaveKinds → (row : Row_of-Statement m) (n : List Node) (k : List Kind) (v : List Variable) (i : ℕ) (b : Block) → statements row (reach n k v) i ≡ Ok b → BlockFits n k v i b
+  pub block_fits : {m : _} → HaveKinds → (row : Row_of-Statement m) (n : List Node) (k : List Kind) (v : List Variable) (i : ℕ) (b : Block) →
+      statements row (reach n k v) i ≡ Ok b → BlockFits n k v i b
   block_fits law end n k v i b h = subst (BlockFits n k v i) (ok_same (block i []) b h) (record { last = kinds_of v; positions = refl; numbers = refl })
   block_fits law (more x rest) n k v i b h =
       let r = reach n k v in

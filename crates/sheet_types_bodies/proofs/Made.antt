@@ -15,7 +15,8 @@ use Rattle.sheet_types_formulas.specs.Typing.{typed}
 use Rattle.sheet_types_bodies.specs.declared.formula.Sheet.{Sheet}
 use Rattle.sheet_types_bodies.specs.declared.statement.Block.{Block as MadeBlock}
 use Rattle.sheet_types_bodies.specs.declared.statement.Guarded.{Guarded as MadeGuarded}
-use Rattle.sheet_types_bodies.specs.Statements.{Step, Block, step, formula_of, in_block, guarded_block, if_of, if_else_of, for_of, if_statement, if_else_statement, for_statement}
+use Rattle.sheet_types_bodies.specs.Statements.{Step, Block, step, formula_of, in_block, guarded_block, if_of, if_else_of, for_of, if_statement}
+use Rattle.sheet_types_bodies.specs.Statements.{if_else_statement, for_statement}
 use Rattle.sheet_types_bodies.specs.Calls.{here, made_with, made_block, made_guarded, with_made}
 use Rattle.sheet_types_bodies.proofs.Steps.{handed_on}
 use Rattle.sheet_types_bodies.proofs.Blocks.{begins_one}
@@ -52,7 +53,8 @@ module _ (s : Sheet) (old : List Variable) (e : Tree) (body : List Statement) (n
   pub either_refused : (otherwise : List Statement) (d : TypeRefusal) → ◌≡◌ {A = Answer (Core × Block)} (guarded_block e body (here s old) first) (Err d)
       → ◌≡◌ {A = Answer Step} (if_else_statement e body otherwise (here s old) n) (Err d)
   either_refused otherwise d h =
-      ap (λ m. guarded_block e body (here s old) m >>= (λ x. in_block otherwise (here s old) x.1.next >>= (λ y. Ok (if_else_of (here s old) n x.0 x.1 y)))) (sym behind)
+      ap (λ m. guarded_block e body (here s old) m >>= (λ x. in_block otherwise (here s old) x.1.next >>= (λ y. Ok (if_else_of (here s old) n x.0 x.1 y))))
+      (sym behind)
       ∙ ap (λ a. a >>= (λ x. in_block otherwise (here s old) x.1.next >>= (λ y. Ok (if_else_of (here s old) n x.0 x.1 y)))) h
 
   pub for_refused : (x : List ℕ) (us : List Variable) (d : TypeRefusal) → us ≡ old → ◌≡◌ {A = Answer Typed} (typed e (here s us)) (Err d)
@@ -73,9 +75,11 @@ module _ (s : Sheet) (old : List Variable) (e : Tree) (body : List Statement) (n
   pub either_told : (otherwise : List Statement) (mid new : List Variable) (g : MadeGuarded) (made : Result MadeBlock TypeRefusal)
       → guarded_block e body (here s old) first ≡ Ok (made_guarded g) → mid ≡ old
       → AnswersAs made_block made (in_block otherwise (here s mid) g.body.next) → OnOk made (new ≡ mid)
-      → AnswersAs (made_with s new) (with_made made (λ o. record { core = core.If n g.condition g.body.statements o.statements; next = o.next })) (if_else_statement e body otherwise (here s old) n)
+      → AnswersAs (made_with s new) (with_made made (λ o. record { core = core.If n g.condition g.body.statements o.statements; next = o.next }))
+      (if_else_statement e body otherwise (here s old) n)
   either_told otherwise mid new g (Ok o) is same told stays =
-      ap (λ m. guarded_block e body (here s old) m >>= (λ x. in_block otherwise (here s old) x.1.next >>= (λ y. Ok (if_else_of (here s old) n x.0 x.1 y)))) (sym behind)
+      ap (λ m. guarded_block e body (here s old) m >>= (λ x. in_block otherwise (here s old) x.1.next >>= (λ y. Ok (if_else_of (here s old) n x.0 x.1 y))))
+      (sym behind)
       ∙ ap (λ a. a >>= (λ x. in_block otherwise (here s old) x.1.next >>= (λ y. Ok (if_else_of (here s old) n x.0 x.1 y)))) is
       ∙ ap (λ vs. in_block otherwise (here s vs) g.body.next >>= (λ y. Ok (if_else_of (here s old) n g.condition (made_block g.body) y))) (sym same)
       ∙ ap (λ a. a >>= (λ y. Ok (if_else_of (here s old) n g.condition (made_block g.body) y))) told
@@ -83,7 +87,8 @@ module _ (s : Sheet) (old : List Variable) (e : Tree) (body : List Statement) (n
   either_told otherwise mid new g (Err d) is same told stays =
       handed_on d made_block (made_with s new) (in_block otherwise (here s mid) g.body.next) (if_else_statement e body otherwise (here s old) n) told
       (λ no.
-      ap (λ m. guarded_block e body (here s old) m >>= (λ x. in_block otherwise (here s old) x.1.next >>= (λ y. Ok (if_else_of (here s old) n x.0 x.1 y)))) (sym behind)
+      ap (λ m. guarded_block e body (here s old) m >>= (λ x. in_block otherwise (here s old) x.1.next >>= (λ y. Ok (if_else_of (here s old) n x.0 x.1 y))))
+      (sym behind)
       ∙ ap (λ a. a >>= (λ x. in_block otherwise (here s old) x.1.next >>= (λ y. Ok (if_else_of (here s old) n x.0 x.1 y)))) is
       ∙ ap (λ vs. in_block otherwise (here s vs) g.body.next >>= (λ y. Ok (if_else_of (here s old) n g.condition (made_block g.body) y))) (sym same)
       ∙ ap (λ a. a >>= (λ y. Ok (if_else_of (here s old) n g.condition (made_block g.body) y))) no)
@@ -96,7 +101,8 @@ module _ (s : Sheet) (old : List Variable) (e : Tree) (body : List Statement) (n
   pub for_told : (x : List ℕ) (mid after new : List Variable) (t : Typed) (made : Result MadeBlock TypeRefusal)
       → typed e (here s old) ≡ Ok t → mid ≡ old ++ record { name = x; kind = t.kind } ∷ []
       → AnswersAs made_block made (in_block body (here s mid) first) → OnOk made (after ≡ mid) → new ≡ take (length old) after
-      → AnswersAs (made_with s new) (with_made made (λ b. record { core = core.For n t.core b.statements; next = b.next })) (for_statement x e body (here s old) n)
+      → AnswersAs (made_with s new) (with_made made (λ b. record { core = core.For n t.core b.statements; next = b.next }))
+      (for_statement x e body (here s old) n)
   for_told x mid after new t (Ok b) is one told stays cut =
       ap (λ a. a >>= (λ y. in_block body (bind (here s old) x y.kind) (n + 1) >>= (λ z. Ok (for_of (here s old) n y.core z)))) is
       ∙ ap (λ vs. in_block body (here s vs) (n + 1) >>= (λ z. Ok (for_of (here s old) n t.core z))) (sym one)

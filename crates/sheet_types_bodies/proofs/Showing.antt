@@ -75,6 +75,7 @@ parts_fit law n k v (p ∷ ps) i xs h =
     let a = came_from (part_of p r i) (λ y. parts ps r (i + numbers_of p) >>= (λ ys. Ok (y ∷ ys))) xs h in
     let b = came_from (parts ps r (i + numbers_of p)) (λ ys. Ok (a.0 ∷ ys)) xs a.2 in
     let first = part_fits law n k v p i a.0 a.1 in
-    let rest : are_parts b.0 n k (kinds_of v) (i + numbers_in a.0) ≡ true = ap (λ m. are_parts b.0 n k (kinds_of v) (i + m)) first.1 ∙ parts_fit law n k v ps (i + numbers_of p) b.0 b.1 in
+    let rest : are_parts b.0 n k (kinds_of v) (i + numbers_in a.0) ≡ true = ap (λ m. are_parts b.0 n k (kinds_of v) (i + m)) first.1
+    ∙ parts_fit law n k v ps (i + numbers_of p) b.0 b.1 in
     let P : List CoreView → Type 0 = λ ys. are_parts ys n k (kinds_of v) i ≡ true in
     subst P (ok_same (a.0 ∷ b.0) xs b.2) (both_hold _ _ first.0 rest)

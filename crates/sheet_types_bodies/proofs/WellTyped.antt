@@ -36,7 +36,8 @@ kinds_of v = map (λ (x : Variable). x.kind) v
 
 -- what is told of typed formulas
 pub record HaveKinds : Type 0 where
-  pub has : (n : List Node) (k : List Kind) (v : List Variable) (e : Tree) (t : Typed) → typed e (reach n k v) ≡ Ok t → kind_in t.core n k (map (λ (x : Variable). x.kind) v) ≡ Some t.kind
+  pub has : (n : List Node) (k : List Kind) (v : List Variable) (e : Tree) (t : Typed) → typed e (reach n k v) ≡ Ok t →
+      kind_in t.core n k (map (λ (x : Variable). x.kind) v) ≡ Some t.kind
 
 -- an answer came from a first step and a second one
 pub came_from : {A B : Type 0} (a : Answer A) (f : A → Answer B) (y : B) → a >>= f ≡ Ok y → (x : A) × (a ≡ Ok x) × (f x ≡ Ok y)
@@ -90,22 +91,33 @@ pub reply_fits : HaveKinds → (n : List Node) (k : List Kind) (v : List Variabl
 unfolding reply_of
 reply_fits law n k v e i s h =
     let a = came_from (typed e (reach n k v)) (λ t. Ok (step (reach n k v) (i + 1) (core.Reply i t.core))) s h in
-    subst (Fits n k v i) (ok_same _ s a.2) (record { columns = refl; positions = ap (λ o. o >> (λ x. Some (kinds_of v))) (law.has n k v e a.0 a.1); numbers = counts_on i })
+    subst (Fits n k v i) (ok_same _ s a.2) (record {
+      columns = refl;
+      positions = ap (λ o. o >> (λ x. Some (kinds_of v))) (law.has n k v e a.0 a.1);
+      numbers = counts_on i;
+    })
 
 pub check_fits : HaveKinds → (n : List Node) (k : List Kind) (v : List Variable) (e : Tree) (message : List ℕ) (i : ℕ) (s : Step)
     → check_of e message (reach n k v) i ≡ Ok s → Fits n k v i s
 unfolding check_of
 check_fits law n k v e message i s h =
     let a = came_from (formula_of kind.Truth e (reach n k v)) (λ c. Ok (step (reach n k v) (i + 1) (core.Check i c message))) s h in
-    subst (Fits n k v i) (ok_same _ s a.2) (record { columns = refl; positions = ap (λ b. where_so b (kinds_of v)) (formula_suits law n k v kind.Truth e a.0 a.1); numbers = counts_on i })
+    subst (Fits n k v i) (ok_same _ s a.2)
+    (record { columns = refl; positions = ap (λ b. where_so b (kinds_of v)) (formula_suits law n k v kind.Truth e a.0 a.1); numbers = counts_on i })
 
 pub let_fits : HaveKinds → (n : List Node) (k : List Kind) (v : List Variable) (x : List ℕ) (e : Tree) (i : ℕ) (s : Step)
     → let_of x e (reach n k v) i ≡ Ok s → Fits n k v i s
 unfolding let_of
 let_fits law n k v x e i s h =
     let a = came_from (typed e (reach n k v)) (λ t. Ok (step (reach n k (v ++ record { name = x; kind = t.kind } ∷ [])) (i + 1) (core.Let i t.core))) s h in
-    let one_more : kinds_of v ++ a.0.kind ∷ [] ≡ kinds_of (v ++ record { name = x; kind = a.0.kind } ∷ []) = sym (map_one v (record { name = x; kind = a.0.kind })) in
-    subst (Fits n k v i) (ok_same _ s a.2) (record { columns = refl; positions = ap (λ o. o >> (λ y. Some (kinds_of v ++ y ∷ []))) (law.has n k v e a.0 a.1) ∙ ap Some one_more; numbers = counts_on i })
+    let one_more : kinds_of v ++ a.0.kind ∷ [] ≡ kinds_of (v ++ record { name = x; kind = a.0.kind } ∷ []) =
+    sym (map_one v (record { name = x; kind = a.0.kind })) in
+    subst (Fits n k v i) (ok_same _ s a.2)
+    (record {
+      columns = refl;
+      positions = ap (λ o. o >> (λ y. Some (kinds_of v ++ y ∷ []))) (law.has n k v e a.0 a.1) ∙ ap Some one_more;
+      numbers = counts_on i;
+    })
 
 -- ---- targets
 
@@ -126,7 +138,8 @@ holder_kind law n k v (Some e) x h =
     let a = came_from (typed e (reach n k v)) (λ t. object_column n t >>= (λ above. Ok (t.core, above))) x h in
     let b = came_from (object_column n a.0) (λ above. Ok (a.0.core, above)) x a.2 in
     let P : Core × ℕ → Type 0 = λ y. kind_in y.0 n k (kinds_of v) ≡ Some (kind.Object y.1) in
-    subst P (ok_same (a.0.core, b.0) x b.2) (law.has n k v e a.0 a.1 ∙ ap Some (objects_are a.0.kind b.0 (told_some (objects_in a.0.kind) (mismatch n (codes "object") a.0) b.0 b.1)))
+    subst P (ok_same (a.0.core, b.0) x b.2) (law.has n k v e a.0 a.1
+    ∙ ap Some (objects_are a.0.kind b.0 (told_some (objects_in a.0.kind) (mismatch n (codes "object") a.0) b.0 b.1)))
 
 -- a target is placed under its object
 under_it : (n : List Node) (k : List Kind) (v : List Variable) (name : List ℕ) (line : ℕ) (x : Core × ℕ) (c : CoreTarget)
@@ -134,11 +147,15 @@ under_it : (n : List Node) (k : List Kind) (v : List Variable) (name : List ℕ)
 unfolding column_under
 under_it n k v name line x c h =
     let found = told_some (option_map (λ d. record { object = x.0; column = d }) (child_named n x.1 name)) (UnknownName line) c h in
-    elim (child_named n x.1 name) as (λ o. child_named n x.1 name ≡ o → option_map (λ d. record { object = x.0; column = d }) o ≡ Some c → (c.object ≡ x.0) × (is_number x.1 (above_of n c.column) ≡ true)) [
+    elim (child_named n x.1 name) as (λ o. child_named n x.1 name ≡ o → option_map (λ d. record { object = x.0; column = d }) o ≡ Some c →
+    (c.object ≡ x.0) × (is_number x.1 (above_of n c.column) ≡ true)) [
       | None ↦ λ is none. let wrong : ⊥ = cc in absurd wrong
       | Some d ↦ λ is some.
-          let same : record { object = x.0; column = d } ≡ c = some_same some in
-          (ap (λ (t : CoreTarget). t.object) (sym same), ap (λ (t : CoreTarget). is_number x.1 (above_of n t.column)) (sym same) ∙ child_is_under n x.1 d name is)
+          let same : record { object = x.0; column = d } ≡ c = some_same some in (
+            ap (λ (t : CoreTarget). t.object) (sym same),
+            ap (λ (t : CoreTarget). is_number x.1 (above_of n t.column)) (sym same)
+                ∙ child_is_under n x.1 d name is,
+          )
     ] refl found
 
 target_placed : HaveKinds → (n : List Node) (k : List Kind) (v : List Variable) (t : Target) (c : CoreTarget)
@@ -194,19 +211,30 @@ change_fits law n k v how t e i s h =
     let a = came_from (state_target t r) (λ c. changed how e r i c >>= (λ x. Ok (step r (i + 1) x))) s h in
     let b = came_from (changed how e r i a.0) (λ x. Ok (step r (i + 1) x)) s a.2 in
     let c = came_from (formula_of (slice_index_or k a.0.column kind.Unknown) e r) (λ x. Ok (core.Change i how a.0 x)) b.0 b.1 in
-    let holds : changes_state a.0 c.0 n k (kinds_of v) ≡ true = three_hold (is_placed n (kind_in a.0.object n k (kinds_of v)) a.0.column) (is_state (column_of n a.0.column)) (suits (slice_index_or k a.0.column kind.Unknown) (kind_in c.0 n k (kinds_of v))) (state_is_placed law n k v t a.0 a.1) (formula_suits law n k v (slice_index_or k a.0.column kind.Unknown) e c.0 c.1) in
+    let holds : changes_state a.0 c.0 n k (kinds_of v) ≡ true =
+    three_hold (is_placed n (kind_in a.0.object n k (kinds_of v)) a.0.column) (is_state (column_of n a.0.column))
+    (suits (slice_index_or k a.0.column kind.Unknown) (kind_in c.0 n k (kinds_of v))) (state_is_placed law n k v t a.0 a.1)
+    (formula_suits law n k v (slice_index_or k a.0.column kind.Unknown) e c.0 c.1) in
     let P : CoreStatement → Type 0 = λ x. Fits n k v i (step r (i + 1) x) in
     subst (Fits n k v i) (ok_same _ s b.2)
-    (subst P (ok_same (core.Change i how a.0 c.0) b.0 c.2) (record { columns = refl; positions = ap (λ x. where_so x (kinds_of v)) holds; numbers = counts_on i }))
+    (subst P (ok_same (core.Change i how a.0 c.0) b.0 c.2)
+    (record { columns = refl; positions = ap (λ x. where_so x (kinds_of v)) holds; numbers = counts_on i }))
 
 pub new_fits : HaveKinds → (n : List Node) (k : List Kind) (v : List Variable) (x : List ℕ) (t : Target) (i : ℕ) (s : Step)
     → new_of x t (reach n k v) i ≡ Ok s → Fits n k v i s
 unfolding new_of
 new_fits law n k v x t i s h =
-    let a = came_from (objects_target t (reach n k v)) (λ c. Ok (step (reach n k (v ++ record { name = x; kind = kind.Object c.column } ∷ [])) (i + 1) (core.New i c))) s h in
-    let one_more : kinds_of v ++ kind.Object a.0.column ∷ [] ≡ kinds_of (v ++ record { name = x; kind = kind.Object a.0.column } ∷ []) = sym (map_one v (record { name = x; kind = kind.Object a.0.column })) in
+    let a = came_from (objects_target t (reach n k v))
+    (λ c. Ok (step (reach n k (v ++ record { name = x; kind = kind.Object c.column } ∷ [])) (i + 1) (core.New i c))) s h in
+    let one_more : kinds_of v ++ kind.Object a.0.column ∷ [] ≡ kinds_of (v ++ record { name = x; kind = kind.Object a.0.column } ∷ []) =
+    sym (map_one v (record { name = x; kind = kind.Object a.0.column })) in
     subst (Fits n k v i) (ok_same _ s a.2)
-    (record { columns = refl; positions = ap (λ b. where_so b (kinds_of v ++ kind.Object a.0.column ∷ [])) (objects_are_placed law n k v t a.0 a.1) ∙ ap Some one_more; numbers = counts_on i })
+    (record {
+      columns = refl;
+      positions = ap (λ b. where_so b (kinds_of v ++ kind.Object a.0.column ∷ [])) (objects_are_placed law n k v t a.0 a.1)
+          ∙ ap Some one_more;
+      numbers = counts_on i;
+    })
 
 above_some : (n : List Node) (x : Kind) (a : ℕ) → option_and_then (above_of n) (objects_in x) ≡ Some a → is_deletable n (Some x) ≡ true
 above_some n kind.Unknown a h = refl
@@ -240,5 +268,6 @@ delete_fits law n k v e i s h =
     let a = came_from (typed e r) (λ t. deletable n t >>= (λ c. Ok (step r (i + 1) (core.Delete i c)))) s h in
     let b = came_from (deletable n a.0) (λ c. Ok (step r (i + 1) (core.Delete i c))) s a.2 in
     let u = goes n a.0 b.0 b.1 in
-    let holds : is_deletable n (kind_in b.0 n k (kinds_of v)) ≡ true = ap (λ c. is_deletable n (kind_in c n k (kinds_of v))) (sym u.0) ∙ ap (is_deletable n) (law.has n k v e a.0 a.1) ∙ u.1 in
+    let holds : is_deletable n (kind_in b.0 n k (kinds_of v)) ≡ true = ap (λ c. is_deletable n (kind_in c n k (kinds_of v))) (sym u.0)
+    ∙ ap (is_deletable n) (law.has n k v e a.0 a.1) ∙ u.1 in
     subst (Fits n k v i) (ok_same _ s b.2) (record { columns = refl; positions = ap (λ x. where_so x (kinds_of v)) holds; numbers = counts_on i })

@@ -37,7 +37,8 @@ starts callers ps = ap (λ ks. kind.Object callers ∷ kind.Truth ∷ ks) (param
 allow_fits : HaveKinds → (n : List Node) (k : List Kind) (v : List Variable) (o : Option Tree) (c : Core)
     → allow_of o (reach n k v) ≡ Ok c → suits kind.Truth (kind_in c n k (kinds_of v)) ≡ true
 unfolding allow_of
-allow_fits law n k v None c h = let P : Core → Type 0 = λ x. suits kind.Truth (kind_in x n k (kinds_of v)) ≡ true in subst P (ok_same (formula.Truth true) c h) refl
+allow_fits law n k v None c h = let P : Core → Type 0 = λ x. suits kind.Truth (kind_in x n k (kinds_of v)) ≡ true in
+    subst P (ok_same (formula.Truth true) c h) refl
 allow_fits law n k v (Some e) c h = formula_suits law n k v kind.Truth e c h
 
 pub procedures_fit : HaveKinds → ProceduresAreTyped

@@ -16,6 +16,7 @@ use Rattle.sheet_types_bodies.specs.Parts.{parts}
 use Rattle.sheet_books.specs.declared.body.Procedure.{Procedure}
 use Rattle.sheet_books.specs.declared.body.View.{View}
 
+-- a parameter as a variable
 abbrev pub variable_of : List ℕ × Kind → Variable
 variable_of p = record { name = p.0; kind = p.1 }
 

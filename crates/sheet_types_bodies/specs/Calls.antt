@@ -34,6 +34,7 @@ abbrev pub with_made : {A : Type 0} → Result MadeBlock TypeRefusal → (MadeBl
 with_made (Ok b) f = Ok (f b)
 with_made (Err e) f = Err e
 
+-- what is made of slots, where they weren't refused
 abbrev pub slots_made : Result (List CoreSlot) TypeRefusal → (List CoreSlot → CoreView) → Result CoreView TypeRefusal
 slots_made (Ok xs) f = Ok (f xs)
 slots_made (Err e) f = Err e

@@ -33,6 +33,7 @@ numbers_of (part.Table line name x e shows) = 1 + length shows
 unfoldable pub table : List ℕ → List ℕ → Tree → List Show → Reach → ℕ → Answer CoreView
 table name x e shows r n = typed e r >>= (λ source. slots shows (bind r x source.kind) (n + 1) >>= (λ xs. Ok (core.Table n name source.core xs)))
 
+-- a slot or a table
 unfoldable pub part_of : Part → Reach → ℕ → Answer CoreView
 part_of (part.Show s) r n = slot s r n >>= (λ x. Ok (core.Show x))
 part_of (part.Table line name x e shows) r n = table name x e shows r n

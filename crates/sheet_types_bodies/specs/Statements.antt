@@ -26,6 +26,7 @@ pub record Step : Type 0 where
   pub reach : Reach
   pub next : ℕ
 
+-- a statement with its names resolved, what is in reach behind it, and the next number
 abbrev pub step : Reach → ℕ → CoreStatement → Step
 step r next core = record { core = core; reach = r; next = next }
 
@@ -34,6 +35,7 @@ pub record Block : Type 0 where
   pub list : List CoreStatement
   pub next : ℕ
 
+-- the statements of a block and the number behind them
 abbrev pub block : ℕ → List CoreStatement → Block
 block next list = record { list = list; next = next }
 
@@ -41,6 +43,7 @@ block next list = record { list = list; next = next }
 abbrev pub before : List CoreStatement → Block → Block
 before xs b = block b.next (xs ++ b.list)
 
+-- statements as a block holds them
 abbrev pub listed : List CoreStatement → Statements
 listed xs = record { list = xs }
 
@@ -48,6 +51,7 @@ listed xs = record { list = xs }
 unfoldable pub formula_of : Kind → Tree → Reach → Answer Core
 formula_of k e r = typed e r >>= (λ v. agreed r.columns k v >>= (λ l. Ok v.core))
 
+-- whether a type is known
 abbrev pub is_known : Kind → Bool
 is_known kind.Unknown = false
 is_known k = true
@@ -88,9 +92,11 @@ reply_of e r n = typed e r >>= (λ v. Ok (step r (n + 1) (core.Reply n v.core)))
 abbrev pub if_of : Reach → ℕ → Core → Block → Step
 if_of r n c body = step r body.next (core.If n c (listed body.list) (listed []))
 
+-- an if with an else
 abbrev pub if_else_of : Reach → ℕ → Core → Block → Block → Step
 if_else_of r n c body otherwise = step r otherwise.next (core.If n c (listed body.list) (listed otherwise.list))
 
+-- a for
 abbrev pub for_of : Reach → ℕ → Core → Block → Step
 for_of r n source body = step r body.next (core.For n source (listed body.list))
 
@@ -130,9 +136,11 @@ guarded_block e body r n = formula_of kind.Truth e r >>= (λ c. in_block body r 
 abbrev pub if_statement : Tree → List Statement → Reach → ℕ → Answer Step
 if_statement e body r n = guarded_block e body r (n + 1) >>= (λ g. Ok (if_of r n g.0 g.1))
 
+-- `if e { .. } else { .. }`
 abbrev pub if_else_statement : Tree → List Statement → List Statement → Reach → ℕ → Answer Step
 if_else_statement e body otherwise r n =
     guarded_block e body r (n + 1) >>= (λ g. in_block otherwise r g.1.next >>= (λ o. Ok (if_else_of r n g.0 g.1 o)))
 
+-- `for x in e { .. }`
 abbrev pub for_statement : List ℕ → Tree → List Statement → Reach → ℕ → Answer Step
 for_statement x e body r n = typed e r >>= (λ s. in_block body (bind r x s.kind) (n + 1) >>= (λ b. Ok (for_of r n s.core b)))

@@ -39,6 +39,7 @@ on_state line t (Some Object) = Err (other_column line (codes "state column") (c
 on_state line t (Some (State k one first)) = Ok t
 on_state line t (Some (Formula k)) = Err (other_column line (codes "state column") (codes "formula column"))
 
+-- the target of a change
 unfoldable pub state_target : Target → Reach → Answer CoreTarget
 state_target t r = target t r >>= (λ found. on_state t.line found (column_of r.columns found.column))
 
@@ -49,5 +50,6 @@ on_objects line t (Some Object) = Ok t
 on_objects line t (Some (State k one first)) = Err (other_column line (codes "object column") (codes "state column"))
 on_objects line t (Some (Formula k)) = Err (other_column line (codes "object column") (codes "formula column"))
 
+-- the target of a new object
 unfoldable pub objects_target : Target → Reach → Answer CoreTarget
 objects_target t r = target t r >>= (λ found. on_objects t.line found (column_of r.columns found.column))

@@ -6,7 +6,9 @@ ghost use Rattle.sheet_types_bodies.specs.Statements.{formula_of as formula_that
 
 use sheet_columns::{Columns, Core};
 use sheet_syntax_trees::Tree;
-use sheet_types_formulas::{Scope, TypeRefusal, Typed, Variable, agree, column_above_of, type_formula};
+use sheet_types_formulas::{
+    Scope, TypeRefusal, Typed, Variable, agree, column_above_of, type_formula,
+};
 use sheet_values::Kind;
 use std::alloc::Global;
 

@@ -8,8 +8,6 @@ mod law;
 mod part;
 mod statement;
 mod target;
-#[cfg(test)]
-mod tests;
 
 pub use body::{resolve_procedure, resolve_view};
 pub use law::{

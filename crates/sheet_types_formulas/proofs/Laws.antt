@@ -43,12 +43,14 @@ module _ (r : Reach) (line : ℕ) where
   typed-Call f e = refl
 
   pub typed-Gather : (g : Gathering) (f : Tree) (x : List ℕ) (s : Tree)
-      → typed (tree.Gather line g f x s) r ≡ typed s r >>= (λ source. typed f (bind r x source.kind) >>= (λ body. gathered r.columns line g body source (no_condition line)))
+      → typed (tree.Gather line g f x s) r ≡ typed s
+      r >>= (λ source. typed f (bind r x source.kind) >>= (λ body. gathered r.columns line g body source (no_condition line)))
   unfolding hidden hidden-the_row-Tree-0
   typed-Gather g f x s = refl
 
   pub typed-GatherWhere : (g : Gathering) (f : Tree) (x : List ℕ) (s p : Tree)
-      → typed (tree.GatherWhere line g f x s p) r ≡ typed s r >>= (λ source. typed f (bind r x source.kind) >>= (λ body. typed p (bind r x source.kind) >>= gathered r.columns line g body source))
+      → typed (tree.GatherWhere line g f x s p) r ≡ typed s
+      r >>= (λ source. typed f (bind r x source.kind) >>= (λ body. typed p (bind r x source.kind) >>= gathered r.columns line g body source))
   unfolding hidden hidden-the_row-Tree-0
   typed-GatherWhere g f x s p = refl
 

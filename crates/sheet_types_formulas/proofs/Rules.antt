@@ -20,15 +20,18 @@ use Rattle.sheet_types_rules.specs.Kinds.{common, has_order, objects_in}
 use Rattle.sheet_types_rules.specs.Formulas.{kind_in, kinds_in, provided, serves, all_common, is_under, is_object, is_state, is_formula, ◌>>◌}
 
 module _ (n : List Node) (k v : List Kind) where
-  pub kind-ObjectStep : (e : Core) (c : ℕ) → kind_in (core.ObjectStep e c) n k v ≡ kind_in e n k v >> (λ x. provided (is_under n x c && is_object (column_of n c)) (kind.Object c))
+  pub kind-ObjectStep : (e : Core) (c : ℕ) →
+      kind_in (core.ObjectStep e c) n k v ≡ kind_in e n k v >> (λ x. provided (is_under n x c && is_object (column_of n c)) (kind.Object c))
   unfolding hidden hidden-the_row-Core-0
   kind-ObjectStep e c = refl
 
-  pub kind-StateStep : (e : Core) (c : ℕ) → kind_in (core.StateStep e c) n k v ≡ kind_in e n k v >> (λ x. provided (is_under n x c && is_state (column_of n c)) (slice_index_or k c kind.Unknown))
+  pub kind-StateStep : (e : Core) (c : ℕ) →
+      kind_in (core.StateStep e c) n k v ≡ kind_in e n k v >> (λ x. provided (is_under n x c && is_state (column_of n c)) (slice_index_or k c kind.Unknown))
   unfolding hidden hidden-the_row-Core-0
   kind-StateStep e c = refl
 
-  pub kind-FormulaStep : (e : Core) (c : ℕ) → kind_in (core.FormulaStep e c) n k v ≡ kind_in e n k v >> (λ x. provided (is_under n x c && is_formula (column_of n c)) (slice_index_or k c kind.Unknown))
+  pub kind-FormulaStep : (e : Core) (c : ℕ) →
+      kind_in (core.FormulaStep e c) n k v ≡ kind_in e n k v >> (λ x. provided (is_under n x c && is_formula (column_of n c)) (slice_index_or k c kind.Unknown))
   unfolding hidden hidden-the_row-Core-0
   kind-FormulaStep e c = refl
 
@@ -40,15 +43,19 @@ module _ (n : List Node) (k v : List Kind) where
   unfolding hidden hidden-the_row-Core-0
   kind-Combine op a b = refl
 
-  pub kind-Compare : (test : SetTest) (a b : Core) → kind_in (core.Compare test a b) n k v ≡ kind_in a n k v >> (λ x. kind_in b n k v >> (λ y. provided (serves x y) kind.Truth))
+  pub kind-Compare : (test : SetTest) (a b : Core) →
+      kind_in (core.Compare test a b) n k v ≡ kind_in a n k v >> (λ x. kind_in b n k v >> (λ y. provided (serves x y) kind.Truth))
   unfolding hidden hidden-the_row-Core-0
   kind-Compare test a b = refl
 
-  pub kind-Order : (test : OrderTest) (a b : Core) → kind_in (core.Order test a b) n k v ≡ kind_in a n k v >> (λ x. kind_in b n k v >> (λ y. provided (has_order x && has_order y && serves x y) kind.Truth))
+  pub kind-Order : (test : OrderTest) (a b : Core) →
+      kind_in (core.Order test a b) n k v ≡ kind_in a n k v >> (λ x. kind_in b n k v >> (λ y. provided (has_order x && has_order y && serves x y) kind.Truth))
   unfolding hidden hidden-the_row-Core-0
   kind-Order test a b = refl
 
-  pub kind-Arithmetic : (op : ArithmeticOperator) (a b : Core) → kind_in (core.Arithmetic op a b) n k v ≡ kind_in a n k v >> (λ x. kind_in b n k v >> (λ y. provided (serves kind.Number x && serves kind.Number y) kind.Number))
+  pub kind-Arithmetic : (op : ArithmeticOperator) (a b : Core) →
+      kind_in (core.Arithmetic op a b) n k v ≡ kind_in a n k v >>
+      (λ x. kind_in b n k v >> (λ y. provided (serves kind.Number x && serves kind.Number y) kind.Number))
   unfolding hidden hidden-the_row-Core-0
   kind-Arithmetic op a b = refl
 
@@ -56,7 +63,8 @@ module _ (n : List Node) (k v : List Kind) where
   unfolding hidden hidden-the_row-Core-0
   kind-Negate a = refl
 
-  pub kind-Join : (a b : Core) → kind_in (core.Join a b) n k v ≡ kind_in a n k v >> (λ x. kind_in b n k v >> (λ y. provided (serves kind.Text x && serves kind.Text y) kind.Text))
+  pub kind-Join : (a b : Core) →
+      kind_in (core.Join a b) n k v ≡ kind_in a n k v >> (λ x. kind_in b n k v >> (λ y. provided (serves kind.Text x && serves kind.Text y) kind.Text))
   unfolding hidden hidden-the_row-Core-0
   kind-Join a b = refl
 
@@ -64,11 +72,14 @@ module _ (n : List Node) (k v : List Kind) where
   unfolding hidden hidden-the_row-Core-0
   kind-Not a = refl
 
-  pub kind-Connect : (op : Connective) (a b : Core) → kind_in (core.Connect op a b) n k v ≡ kind_in a n k v >> (λ x. kind_in b n k v >> (λ y. provided (serves kind.Truth x && serves kind.Truth y) kind.Truth))
+  pub kind-Connect : (op : Connective) (a b : Core) →
+      kind_in (core.Connect op a b) n k v ≡ kind_in a n k v >> (λ x. kind_in b n k v >> (λ y. provided (serves kind.Truth x && serves kind.Truth y) kind.Truth))
   unfolding hidden hidden-the_row-Core-0
   kind-Connect op a b = refl
 
-  pub kind-If : (c a b : Core) → kind_in (core.If c a b) n k v ≡ kind_in c n k v >> (λ x. kind_in a n k v >> (λ y. kind_in b n k v >> (λ z. if serves kind.Truth x then common y z else None)))
+  pub kind-If : (c a b : Core) →
+      kind_in (core.If c a b) n k v ≡ kind_in c n k v >>
+      (λ x. kind_in a n k v >> (λ y. kind_in b n k v >> (λ z. if serves kind.Truth x then common y z else None)))
   unfolding hidden hidden-the_row-Core-0
   kind-If c a b = refl
 
@@ -90,7 +101,8 @@ module _ (n : List Node) (k v : List Kind) where
   kind-Comprehension f s p = refl
 
   pub kind-Sum : (f s p : Core) → kind_in (core.Sum f s p) n k v
-      ≡ kind_in s n k v >> (λ x. kind_in f n k (v ++ x ∷ []) >> (λ y. kind_in p n k (v ++ x ∷ []) >> (λ z. provided (serves kind.Number y && serves kind.Truth z) kind.Number)))
+      ≡ kind_in s n k v >>
+      (λ x. kind_in f n k (v ++ x ∷ []) >> (λ y. kind_in p n k (v ++ x ∷ []) >> (λ z. provided (serves kind.Number y && serves kind.Truth z) kind.Number)))
   unfolding hidden hidden-the_row-Core-0
   kind-Sum f s p = refl
 
@@ -117,7 +129,8 @@ module _ (n : List Node) (k v : List Kind) where
   unfolding kinds_of_all
   kinds_of_none = refl
 
-  pub kinds_of_more : (e : Core) (es : List Core) (x : Kind) (xs : List Kind) → kind_in e n k v ≡ Some x → kinds_of_all es ≡ Some xs → kinds_of_all (e ∷ es) ≡ Some (x ∷ xs)
+  pub kinds_of_more : (e : Core) (es : List Core) (x : Kind) (xs : List Kind) → kind_in e n k v ≡ Some x → kinds_of_all es ≡ Some xs →
+      kinds_of_all (e ∷ es) ≡ Some (x ∷ xs)
   unfolding kinds_of_all
   kinds_of_more e es x xs first others =
       ap (λ o. o >> (λ y. kinds_of_all es >> (λ ys. Some (y ∷ ys)))) first ∙ ap (λ o. o >> (λ ys. Some (x ∷ ys))) others

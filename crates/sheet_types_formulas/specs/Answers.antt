@@ -3,6 +3,7 @@ use Rattle.std.specs.Prelude.{◌≡◌, Result, Ok, Err}
 use Rattle.sheet_types_formulas.specs.declared.refusal.TypeRefusal.{TypeRefusal}
 use Rattle.sheet_types_formulas.specs.declared.refusal.TypeRefusal.TheVariants.{NoMemory}
 
+-- what is told, or the first refusal
 abbrev pub Answer : Type 0 → Type 0
 Answer A = Result A TypeRefusal
 

@@ -155,6 +155,7 @@ unfoldable pub gathered : List Node → ℕ → Gathering → Typed → Typed �
 gathered n line g body source condition =
     gathered_kind n g body condition >>= (λ k. Ok (typed_as line (gathered_core g body.core source.core condition.core) k))
 
+-- a test of a set, as formulas with names resolved have it
 abbrev pub quantifier_of : Quantifier → CoreQuantifier
 quantifier_of quantifier.Any = core_quantifier.Any
 quantifier_of quantifier.All = core_quantifier.All

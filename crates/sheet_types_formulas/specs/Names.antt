@@ -22,6 +22,7 @@ pub record Reach : Type 0 where
   pub kinds : List Kind
   pub variables : List Variable
 
+-- what names are looked up in
 abbrev pub reach : List Node → List Kind → List Variable → Reach
 reach columns kinds variables = record { columns = columns; kinds = kinds; variables = variables }
 

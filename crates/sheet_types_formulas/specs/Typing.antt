@@ -50,6 +50,7 @@ typed_list (e ∷ es) r = typed e r >>= (λ x. typed_list es r >>= (λ xs. Ok (x
 abbrev pub typed_then : Tree → Reach → (Typed → Answer Typed) → Answer Typed
 typed_then e r f = typed e r >>= f
 
+-- some formulas, and what is made of them
 abbrev pub list_then : List Tree → Reach → (List Typed → Answer Typed) → Answer Typed
 list_then es r f = typed_list es r >>= f
 

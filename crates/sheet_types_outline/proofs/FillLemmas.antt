@@ -8,7 +8,8 @@ use Rattle.sheet_columns.specs.Contents.{holds_objects, holding, with_column}
 use Rattle.sheet_types_outline.specs.Columns.{is_object_node, AreAlike, AreFitting}
 use Rattle.sheet_types_outline.specs.Outlines.{filled}
 
-pub last_alike : (nodes : List Node) (xs : List Column) (x : Column) → AreAlike nodes (xs ++ x ∷ []) → option_map holds_objects (column_of nodes (length xs)) ≡ Some (holds_objects x)
+pub last_alike : (nodes : List Node) (xs : List Column) (x : Column) → AreAlike nodes (xs ++ x ∷ []) →
+    option_map holds_objects (column_of nodes (length xs)) ≡ Some (holds_objects x)
 last_alike [] [] x all = absurd all
 last_alike (n ∷ nodes) [] x all = ap Some all.0
 last_alike [] (y ∷ xs) x all = absurd all
@@ -25,7 +26,8 @@ front_alike nodes [] x all = tt
 front_alike [] (y ∷ xs) x all = absurd all
 front_alike (n ∷ nodes) (y ∷ xs) x all = (all.0, front_alike nodes xs x all.1)
 
-pub filled_last : (nodes : List Node) (xs : List Column) (x : Column) → AreAlike nodes (xs ++ x ∷ []) → filled (with_column nodes (length xs) x) xs ≡ filled nodes (xs ++ x ∷ [])
+pub filled_last : (nodes : List Node) (xs : List Column) (x : Column) → AreAlike nodes (xs ++ x ∷ []) →
+    filled (with_column nodes (length xs) x) xs ≡ filled nodes (xs ++ x ∷ [])
 filled_last [] [] x all = absurd all
 filled_last (n ∷ []) [] x all = refl
 filled_last (n ∷ m ∷ nodes) [] x all = refl

@@ -1,5 +1,6 @@
 -- What a step of the first pass keeps.
-use Rattle.std.proofs.Common.{◌≡◌, ℕ, ◌+◌, ◌<◌, zero, suc, true, false, List, [], ◌∷◌, ◌++◌, length, map, take, Option, Some, None, Ok, Err, refl, sym, ap, ◌∙◌, subst, arith, length-append}
+use Rattle.std.proofs.Common.{◌≡◌, ℕ, ◌+◌, ◌<◌, zero, suc, true, false, List, [], ◌∷◌, ◌++◌, length, map, take, Option, Some, None, Ok, Err, refl, sym, ap, ◌∙◌}
+use Rattle.std.proofs.Common.{subst, arith, length-append}
 use Rattle.std.specs.Prelude.{◌==◌, is_some, slice_get, slice_index_or, option_map}
 use Rattle.std.proofs.lemmas.Bool.Decides.{nat_tests}
 use Rattle.std.proofs.lemmas.List.{map-append, length-take-le}
@@ -21,12 +22,14 @@ use Rattle.sheet_types_outline.specs.declared.naming.Named.{Named}
 use Rattle.sheet_types_outline.specs.Columns.{is_object, objects_at, is_object_node, AreObjects}
 use Rattle.sheet_types_outline.specs.Names.{one_more}
 use Rattle.sheet_types_outline.specs.Steps.{Leaves}
-use Rattle.sheet_types_outline.specs.Naming.{parameter_names, part_names, refusal_on, untyped, open_behind, name_callers, name_under, name_procedure, name_view, name_declaration}
+use Rattle.sheet_types_outline.specs.Naming.{parameter_names, part_names, refusal_on, untyped, open_behind, name_callers, name_under, name_procedure, name_view}
+use Rattle.sheet_types_outline.specs.Naming.{name_declaration}
 use Rattle.sheet_types_outline.specs.Orderly.{IsOrderlyAt, count_inside, count_behind}
 use Rattle.sheet_types_outline.proofs.StepLemmas.{both_ok, refused_not, passed, refused_by, not_refused_by}
 
 -- an open column is an object column
-pub open_object : (nodes : List Node) (opened : List ℕ) → AreObjects nodes opened → (k : ℕ) → k < length opened → column_of nodes (slice_index_or opened k 0) ≡ Some column.Object
+pub open_object : (nodes : List Node) (opened : List ℕ) → AreObjects nodes opened → (k : ℕ) → k < length opened →
+    column_of nodes (slice_index_or opened k 0) ≡ Some column.Object
 open_object nodes [] all k lt = absurd (omega arith)
 open_object nodes (c ∷ cs) all zero lt = all.0
 open_object nodes (c ∷ cs) all (suc k) lt = open_object nodes cs all.1 k (omega arith)
@@ -40,7 +43,8 @@ get_new : {A : Type 0} (xs : List A) (x : A) → slice_get (xs ++ x ∷ []) (len
 get_new [] x = refl
 get_new (y ∷ xs) x = get_new xs x
 
-some_column : (o p : Option Node) → ((n : Node) → o ≡ Some n → p ≡ Some n) → option_map (λ (n : Node). n.column) o ≡ Some column.Object → option_map (λ (n : Node). n.column) p ≡ Some column.Object
+some_column : (o p : Option Node) → ((n : Node) → o ≡ Some n → p ≡ Some n) → option_map (λ (n : Node). n.column) o ≡ Some column.Object →
+    option_map (λ (n : Node). n.column) p ≡ Some column.Object
 some_column None p f e = cc
 some_column (Some n) p f e = ap (option_map (λ (n : Node). n.column)) (f n refl) ∙ e
 
@@ -70,7 +74,8 @@ append_nil [] = refl
 append_nil (x ∷ xs) = ap (λ t. x ∷ t) (append_nil xs)
 
 -- a step that adds no column
-same : (s t : Named) (d : Declaration) → AreObjects s.columns s.opened → s.columns ≡ t.columns → s.opened ≡ t.opened → objects_at d ≡ [] → count_behind (length s.opened) d ≡ length s.opened → GoesOn s t d
+same : (s t : Named) (d : Declaration) → AreObjects s.columns s.opened → s.columns ≡ t.columns → s.opened ≡ t.opened → objects_at d ≡ [] →
+    count_behind (length s.opened) d ≡ length s.opened → GoesOn s t d
 same s t d all columns opened none behind = record {
   objects = subst (λ o. AreObjects t.columns o) opened (subst (λ ns. AreObjects ns s.opened) columns all);
   count = ap length (sym opened) ∙ sym behind;
@@ -96,12 +101,14 @@ opened_count opened k number Object lt =
 opened_count opened k number (State t one first) lt = length-take-le (k + 1) opened (omega arith)
 opened_count opened k number (Formula t f) lt = length-take-le (k + 1) opened (omega arith)
 
-goes_callers : (s t : Named) (line : ℕ) (d : Declaration) → AreObjects s.columns s.opened → objects_at d ≡ [] → count_behind (length s.opened) d ≡ length s.opened → name_callers s line ≡ Ok t → GoesOn s t d
+goes_callers : (s t : Named) (line : ℕ) (d : Declaration) → AreObjects s.columns s.opened → objects_at d ≡ [] →
+    count_behind (length s.opened) d ≡ length s.opened → name_callers s line ≡ Ok t → GoesOn s t d
 goes_callers s t line d all none behind is =
     let e : record s { has_callers = true } ≡ t = passed s.has_callers _ _ t is in
     same s t d all (ap (λ (n : Named). n.columns) e) (ap (λ (n : Named). n.opened) e) none behind
 
-goes_procedure : (s t : Named) (p : Procedure) (d : Declaration) → AreObjects s.columns s.opened → objects_at d ≡ [] → count_behind (length s.opened) d ≡ length s.opened → name_procedure s p ≡ Ok t → GoesOn s t d
+goes_procedure : (s t : Named) (p : Procedure) (d : Declaration) → AreObjects s.columns s.opened → objects_at d ≡ [] →
+    count_behind (length s.opened) d ≡ length s.opened → name_procedure s p ≡ Ok t → GoesOn s t d
 unfolding name_procedure
 goes_procedure s t p d all none behind is =
     let a = both_ok (one_more s.procedures p.line p.name) (λ names. parameter_names p.parameters >>= λ parameters. Ok (record s { procedures = names })) t is in
@@ -109,16 +116,19 @@ goes_procedure s t p d all none behind is =
     let e : record s { procedures = a.0 } ≡ t = passed false (Doubled 0) _ t b.2 in
     same s t d all (ap (λ (n : Named). n.columns) e) (ap (λ (n : Named). n.opened) e) none behind
 
-goes_view : (s t : Named) (v : View) (d : Declaration) → AreObjects s.columns s.opened → objects_at d ≡ [] → count_behind (length s.opened) d ≡ length s.opened → name_view s v ≡ Ok t → GoesOn s t d
+goes_view : (s t : Named) (v : View) (d : Declaration) → AreObjects s.columns s.opened → objects_at d ≡ [] →
+    count_behind (length s.opened) d ≡ length s.opened → name_view s v ≡ Ok t → GoesOn s t d
 unfolding name_view
 goes_view s t v d all none behind is =
-    let a = both_ok (one_more s.views v.line v.name) (λ names. parameter_names v.parameters >>= λ parameters. part_names v.parts >>= λ parts. Ok (record s { views = names })) t is in
+    let a = both_ok (one_more s.views v.line v.name) (λ names. parameter_names v.parameters >>= λ parameters. part_names v.parts >>= λ parts.
+    Ok (record s { views = names })) t is in
     let b = both_ok (parameter_names v.parameters) (λ parameters. part_names v.parts >>= λ parts. Ok (record s { views = a.0 })) t a.2 in
     let f = both_ok (part_names v.parts) (λ parts. Ok (record s { views = a.0 })) t b.2 in
     let e : record s { views = a.0 } ≡ t = passed false (Doubled 0) _ t f.2 in
     same s t d all (ap (λ (n : Named). n.columns) e) (ap (λ (n : Named). n.opened) e) none behind
 
-goes_column : (s t : Named) (above : ℕ) (c : Column) → AreObjects s.columns s.opened → c.depth < length s.opened → name_under s above c ≡ Ok t → GoesOn s t (declaration.Column c)
+goes_column : (s t : Named) (above : ℕ) (c : Column) → AreObjects s.columns s.opened → c.depth < length s.opened → name_under s above c ≡ Ok t →
+    GoesOn s t (declaration.Column c)
 unfolding name_under
 goes_column s t above c all inside is =
     let a = refused_not (is_some (child_named s.columns above c.name)) _ _ t is in

@@ -4,10 +4,13 @@ use Rattle.sheet_syntax_trees.specs.declared.token.Token.{Token}
 use Rattle.sheet_syntax_trees.specs.Grammar.{expression}
 use Rattle.sheet_define_data.specs.declared.definition.Declaration.{Declaration}
 use Rattle.sheet_define_data.specs.declared.definition.Literal.{Literal}
-use Rattle.sheet_define_data.specs.Grammar.{Limits, Maybe, left_out, stated, IsName, IsLiteral, a_number, a_negative_number, a_text, a_true, a_false, IsFirst, a_first, IsColumn, an_object_column, a_state_column, a_formula_column, AreColumns, no_columns, more_columns, IsDeclaration, the_callers, a_column, one_procedure, one_view, AreDeclarations, no_declarations, more_declarations}
+use Rattle.sheet_define_data.specs.Grammar.{Limits, Maybe, left_out, stated, IsName, IsLiteral, a_number, a_negative_number, a_text, a_true, a_false, IsFirst}
+use Rattle.sheet_define_data.specs.Grammar.{a_first, IsColumn, an_object_column, a_state_column, a_formula_column, AreColumns, no_columns, more_columns}
+use Rattle.sheet_define_data.specs.Grammar.{IsDeclaration, the_callers, a_column, one_procedure, one_view, AreDeclarations, no_declarations, more_declarations}
 use Rattle.sheet_types_outline.specs.Orderly.{IsUnsigned, IsUnsignedIfAny, IsOrderlyFrom}
 use Rattle.sheet_types_outline.specs.Texts.{TextsAreOrderly}
-use Rattle.sheet_types_outline.proofs.PlainTokens.{IsPlain, ArePlain, lexed_plain, formula_plain, path_plain, type_plain, one_word_plain, first_plain, declared_plain, procedure_plain, view_plain}
+use Rattle.sheet_types_outline.proofs.PlainTokens.{IsPlain, ArePlain, lexed_plain, formula_plain, path_plain, type_plain, one_word_plain, first_plain}
+use Rattle.sheet_types_outline.proofs.PlainTokens.{declared_plain, procedure_plain, view_plain}
 
 name_short : (t : Token) (name : List ℕ) → IsName name t → IsPlain t.kind → length name ≤ 63
 name_short t name is p = subst IsPlain is p

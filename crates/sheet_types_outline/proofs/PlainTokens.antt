@@ -1,5 +1,6 @@
 -- The tokens of a text: their names have at most 63 bytes and their numbers no sign, also behind what stands at their front.
-use Rattle.std.proofs.Common.{◌≡◌, ℕ, pos, zero, suc, ◌+◌, ◌-◌, ◌≤◌, List, [], ◌∷◌, ◌++◌, length, take, Bool, true, false, cond, Option, Some, None, Result, Ok, Err, refl, subst, arith}
+use Rattle.std.proofs.Common.{◌≡◌, ℕ, pos, zero, suc, ◌+◌, ◌-◌, ◌≤◌, List, [], ◌∷◌, ◌++◌, length, take, Bool, true, false, cond, Option, Some, None, Result, Ok}
+use Rattle.std.proofs.Common.{Err, refl, subst, arith}
 use Rattle.std.specs.Prelude.{◌≤ℤ◌, ◌==◌, nat_le}
 use Rattle.std.proofs.lemmas.Bool.{leb-true}
 use Rattle.std.proofs.lemmas.Int.{ints}
@@ -8,7 +9,8 @@ use Rattle.sheet_syntax_trees.specs.declared.token.TokenKind.{TokenKind}
 use Rattle.sheet_syntax_trees.specs.declared.token.TokenKind.TheVariants as kind
 use Rattle.sheet_syntax_trees.specs.declared.token.SyntaxRefusal.{SyntaxRefusal}
 use Rattle.sheet_syntax_trees.specs.Bytes.{is_letter, is_digit, is_blank, is_in_word, is_in_comment, run_length, symbol_length}
-use Rattle.sheet_syntax_trees.specs.Tokens.{is_reserved, digits_value, has_leading_zero, scan_word, scan_number, text_from, is_short_text, text_scan, symbol_scan, scan, with_tokens, scanned, line_after, tokens_from, lexed}
+use Rattle.sheet_syntax_trees.specs.Tokens.{is_reserved, digits_value, has_leading_zero, scan_word, scan_number, text_from, is_short_text, text_scan}
+use Rattle.sheet_syntax_trees.specs.Tokens.{symbol_scan, scan, with_tokens, scanned, line_after, tokens_from, lexed}
 use Rattle.sheet_syntax_trees.specs.declared.tree.Tree.{Tree}
 use Rattle.sheet_syntax_trees.specs.Grammar.{Nonterminal, expression, postfix}
 use Rattle.sheet_define_data.specs.declared.definition.Path.{Path}
@@ -21,7 +23,13 @@ use Rattle.sheet_define_data.specs.declared.definition.Part.{Part}
 use Rattle.sheet_define_data.specs.declared.definition.View.{View}
 use Rattle.sheet_define_data.specs.declared.statement.Target.{Target}
 use Rattle.sheet_define_data.specs.declared.statement.Statement.{Statement}
-use Rattle.sheet_define_data.specs.Grammar.{Limits, IsFormulaOf, Maybe, left_out, stated, Repeated, none, one_more, AreNames, one_name, more_names, IsPath, a_path, IsType, numbers, texts, truths, objects, IsLiteral, a_number, a_negative_number, a_text, a_true, a_false, IsOne, any_count, just_one, IsFirst, a_first, IsDeclared, a_declared, IsAllow, an_allow, IsParameter, a_parameter, AreParameters, one_parameter, more_parameters, InParentheses, no_parameters, some_parameters, IsTarget, of_root, of_object, IsStatement, a_let, an_assignment, an_add, a_remove, a_new, a_delete, a_check, a_reply, an_if, an_if_else, a_for, AreStatements, no_statements, more_statements, IsBlock, a_block, IsProcedure, a_procedure, IsShow, a_show, IsPart, one_show, a_table, IsView, a_view}
+use Rattle.sheet_define_data.specs.Grammar.{Limits, IsFormulaOf, Maybe, left_out, stated, Repeated, none, one_more, AreNames, one_name, more_names, IsPath}
+use Rattle.sheet_define_data.specs.Grammar.{a_path, IsType, numbers, texts, truths, objects, IsLiteral, a_number, a_negative_number, a_text, a_true, a_false}
+use Rattle.sheet_define_data.specs.Grammar.{IsOne, any_count, just_one, IsFirst, a_first, IsDeclared, a_declared, IsAllow, an_allow, IsParameter, a_parameter}
+use Rattle.sheet_define_data.specs.Grammar.{AreParameters, one_parameter, more_parameters, InParentheses, no_parameters, some_parameters, IsTarget, of_root}
+use Rattle.sheet_define_data.specs.Grammar.{of_object, IsStatement, a_let, an_assignment, an_add, a_remove, a_new, a_delete, a_check, a_reply, an_if}
+use Rattle.sheet_define_data.specs.Grammar.{an_if_else, a_for, AreStatements, no_statements, more_statements, IsBlock, a_block, IsProcedure, a_procedure}
+use Rattle.sheet_define_data.specs.Grammar.{IsShow, a_show, IsPart, one_show, a_table, IsView, a_view}
 
 abbrev pub IsPlain : TokenKind → Type 0
 IsPlain (kind.Name name) = length name ≤ 63
@@ -160,9 +168,11 @@ target_plain l _ _ _ (of_object d n name ts us e f isd named) p = let h = formul
 mutual
   statement_plain : (l : Limits) (b : ℕ) (ts us : List Token) (x : Statement) → IsStatement l b ts x us → ArePlain ts → ArePlain us
   statement_plain l b _ _ _ (a_let _ w n e name ts rest v a1 a2 a3 f) p = formula_plain l expression ts rest v f p.1.1.1
-  statement_plain l b _ _ _ (an_assignment _ w e ts us rest t v a1 g a2 f) p = let k = target_plain l ts (e ∷ us) t g p.1 in formula_plain l expression us rest v f k.1
+  statement_plain l b _ _ _ (an_assignment _ w e ts us rest t v a1 g a2 f) p = let k = target_plain l ts (e ∷ us) t g p.1 in
+      formula_plain l expression us rest v f k.1
   statement_plain l b _ _ _ (an_add _ w o ts us rest t v a1 f a2 g) p = let h = formula_plain l expression ts (o ∷ us) v f p.1 in target_plain l us rest t g h.1
-  statement_plain l b _ _ _ (a_remove _ w o ts us rest t v a1 f a2 g) p = let h = formula_plain l expression ts (o ∷ us) v f p.1 in target_plain l us rest t g h.1
+  statement_plain l b _ _ _ (a_remove _ w o ts us rest t v a1 f a2 g) p = let h = formula_plain l expression ts (o ∷ us) v f p.1 in
+      target_plain l us rest t g h.1
   statement_plain l b _ _ _ (a_new _ w n e name ts rest t a1 a2 a3 g) p = target_plain l ts rest t g p.1.1.1
   statement_plain l b _ _ _ (a_delete _ w ts rest v a1 f) p = formula_plain l expression ts rest v f p.1
   statement_plain l b _ _ _ (a_check _ w e m message ts rest q a1 f a2 a3) p = let h = formula_plain l expression ts (e ∷ m ∷ rest) q f p.1 in h.1.1
@@ -170,7 +180,8 @@ mutual
   statement_plain l b _ _ _ (an_if _ w ts us rest q body a1 f k) p = block_plain l b us rest body k (formula_plain l expression ts us q f p.1)
   statement_plain l b _ _ _ (an_if_else _ w e ts us vs rest q body other a1 f k a2 k2) p =
       let m = block_plain l b us (e ∷ vs) body k (formula_plain l expression ts us q f p.1) in block_plain l b vs rest other k2 m.1
-  statement_plain l b _ _ _ (a_for _ w n i name ts us rest v body a1 a2 a3 f k) p = block_plain l b us rest body k (formula_plain l expression ts us v f p.1.1.1)
+  statement_plain l b _ _ _ (a_for _ w n i name ts us rest v body a1 a2 a3 f k) p =
+      block_plain l b us rest body k (formula_plain l expression ts us v f p.1.1.1)
 
   statements_plain : (l : Limits) (b : ℕ) (ts us : List Token) (xs : List Statement) → AreStatements l b ts xs us → ArePlain ts → ArePlain us
   statements_plain l b _ _ _ (no_statements _ ts) p = p
@@ -182,7 +193,8 @@ mutual
 show_plain : (l : Limits) (ts us : List Token) (x : Show) → IsShow l ts x us → ArePlain ts → ArePlain us
 show_plain l _ _ _ (a_show w n e name ts rest f a1 a2 a3 g) p = formula_plain l expression ts rest f g p.1.1.1
 
-repeated_plain : {A : Type 0} (P : List Token → A → List Token → Type 0) → ((ts us : List Token) (x : A) → P ts x us → ArePlain ts → ArePlain us) → (ts us : List Token) (xs : List A) → Repeated P ts xs us → ArePlain ts → ArePlain us
+repeated_plain : {A : Type 0} (P : List Token → A → List Token → Type 0) → ((ts us : List Token) (x : A) → P ts x us → ArePlain ts → ArePlain us) →
+    (ts us : List Token) (xs : List A) → Repeated P ts xs us → ArePlain ts → ArePlain us
 repeated_plain P plain _ _ _ (none ts) p = p
 repeated_plain P plain _ _ _ (one_more ts us vs x xs q r) p = repeated_plain P plain us vs xs r (plain ts us x q p)
 

@@ -1,5 +1,6 @@
 -- What a step of the second pass keeps.
-use Rattle.std.proofs.Common.{◌≡◌, ℕ, Bool, true, false, ◌&&◌, cond, List, [], ◌∷◌, ◌++◌, length, map, Option, Some, None, Ok, Err, refl, sym, ap, ◌∙◌, subst, arith, length-append}
+use Rattle.std.proofs.Common.{◌≡◌, ℕ, Bool, true, false, ◌&&◌, cond, List, [], ◌∷◌, ◌++◌, length, map, Option, Some, None, Ok, Err, refl, sym, ap, ◌∙◌, subst}
+use Rattle.std.proofs.Common.{arith, length-append}
 use Rattle.std.specs.Prelude.{◌==◌}
 use Rattle.std.proofs.lemmas.List.{length-map, map-append}
 use Rattle.sheet_values.specs.declared.value.Kind.{Kind}
@@ -22,7 +23,8 @@ use Rattle.sheet_types_formulas.specs.Kinds.{kind_text}
 use Rattle.sheet_types_outline.specs.declared.resolving.Resolved.{Resolved}
 use Rattle.sheet_types_outline.specs.Columns.{is_object, objects_at, objects_in, is_object_node, IsCounted, AreFitting}
 use Rattle.sheet_types_outline.specs.Orderly.{IsOrderlyAt, IsOrderlyFrom, IsUnsignedAt, count_behind}
-use Rattle.sheet_types_outline.specs.Types.{kind_of, declared_kind, object_column_at, literal_line, literal_kind, literal_value, first_value, state_column, column_content}
+use Rattle.sheet_types_outline.specs.Types.{kind_of, declared_kind, object_column_at, literal_line, literal_kind, literal_value, first_value, state_column}
+use Rattle.sheet_types_outline.specs.Types.{column_content}
 use Rattle.sheet_types_outline.specs.Resolving.{parameters_of, resolve}
 use Rattle.sheet_types_outline.proofs.StepLemmas.{both_ok, same_ok, passed}
 use Rattle.sheet_types_outline.proofs.FillLemmas.{more_fitting}
@@ -78,7 +80,8 @@ pub record IsHeld (c : Content) (x : columns.Column) : Type 0 where
   pub sort : holds_objects x ≡ is_object c
   pub fitting : HasFittingFirst x
 
-state_held : (nodes : List Node) (number depth : ℕ) (one : Bool) (first : Option Literal) (k : Kind) (x : columns.Column) → state_column nodes number depth one first k ≡ Ok x → (holds_objects x ≡ false) × HasFittingFirst x
+state_held : (nodes : List Node) (number depth : ℕ) (one : Bool) (first : Option Literal) (k : Kind) (x : columns.Column) →
+    state_column nodes number depth one first k ≡ Ok x → (holds_objects x ≡ false) × HasFittingFirst x
 state_held nodes number depth one None k x is =
     let e = passed (one && depth == 0) (NeedsFirst (path nodes number)) (column.State k one None) x is in
     (ap holds_objects (sym e), subst HasFittingFirst e tt)
@@ -139,7 +142,8 @@ grows nodes r t (declaration.View v) fitting is =
     same r t (declaration.View v) fitting (ap (λ (s : Resolved). s.contents) e) refl
 
 -- a declared column that isn't resolved yet has its place in the tree
-pub counted : (nodes : List Node) (xs : List columns.Column) (d : Declaration) (ds : List Declaration) → map holds_objects xs ++ (objects_at d ++ objects_in ds) ≡ map is_object_node nodes → IsCounted nodes xs d
+pub counted : (nodes : List Node) (xs : List columns.Column) (d : Declaration) (ds : List Declaration) →
+    map holds_objects xs ++ (objects_at d ++ objects_in ds) ≡ map is_object_node nodes → IsCounted nodes xs d
 counted nodes xs (declaration.Callers line path) ds same = tt
 counted nodes xs (declaration.Column c) ds same =
     let a = length-append (map holds_objects xs) (is_object c.content ∷ objects_in ds) in

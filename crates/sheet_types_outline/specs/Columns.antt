@@ -16,6 +16,7 @@ is_object Object = true
 is_object (State t one first) = false
 is_object (Formula t f) = false
 
+-- whether a declared column holds objects
 abbrev pub objects_at : Declaration → List Bool
 objects_at (declaration.Callers line path) = []
 objects_at (declaration.Column c) = is_object c.content ∷ []
@@ -27,6 +28,7 @@ abbrev pub objects_in : List Declaration → List Bool
 objects_in [] = []
 objects_in (d ∷ ds) = objects_at d ++ objects_in ds
 
+-- whether a column of the tree holds objects
 abbrev pub is_object_node : Node → Bool
 is_object_node n = holds_objects n.column
 

@@ -5,6 +5,7 @@ use Rattle.std.specs.List.{list_any}
 use Rattle.sheet_types_formulas.specs.declared.refusal.TypeRefusal.TheVariants.{Doubled}
 use Rattle.sheet_types_formulas.specs.Answers.{Answer}
 
+-- whether a name is one of these
 abbrev pub is_among : List (List ℕ) → List ℕ → Bool
 is_among names name = list_any (bytes_eq name) names
 

@@ -62,6 +62,7 @@ name_under s above c =
 abbrev pub name_column : Named → Column → Answer Named
 name_column s c = name_under s (slice_index_or s.opened c.depth 0) c
 
+-- a parameter has a name of its own
 abbrev pub name_parameter : List (List ℕ) → Parameter → Answer (List (List ℕ))
 name_parameter names p = one_more names p.line p.name
 
@@ -69,6 +70,7 @@ name_parameter names p = one_more names p.line p.name
 abbrev pub parameter_names : List Parameter → Answer (List (List ℕ))
 parameter_names ps = in_turn name_parameter [] ps
 
+-- a slot has a name of its own
 abbrev pub name_show : List (List ℕ) → Show → Answer (List (List ℕ))
 name_show names s = one_more names s.line s.name
 
@@ -96,6 +98,7 @@ unfoldable pub name_view : Named → View → Answer Named
 name_view s v =
     one_more s.views v.line v.name >>= λ names. parameter_names v.parameters >>= λ parameters. part_names v.parts >>= λ parts. Ok (record s { views = names })
 
+-- the names of a declaration
 abbrev pub name_declaration : Named → Declaration → Answer Named
 name_declaration s (declaration.Callers line path) = name_callers s line
 name_declaration s (declaration.Column c) = name_column s c

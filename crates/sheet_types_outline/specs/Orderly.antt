@@ -15,10 +15,12 @@ IsUnsigned (Negative line n) = pos 0 ≤ℤ n
 IsUnsigned (Text line text) = Unit {0}
 IsUnsigned (Truth line b) = Unit {0}
 
+-- a first value, where there is one
 abbrev pub IsUnsignedIfAny : Option Literal → Type 0
 IsUnsignedIfAny None = Unit {0}
 IsUnsignedIfAny (Some v) = IsUnsigned v
 
+-- the first value of a column, where it states one
 abbrev pub IsUnsignedFirst : Content → Type 0
 IsUnsignedFirst Object = Unit {0}
 IsUnsignedFirst (State t one first) = IsUnsignedIfAny first
@@ -37,6 +39,7 @@ pub record IsOrderlyColumn (count : ℕ) (c : Column) : Type 0 where
   pub inside : c.depth < count
   pub unsigned : IsUnsignedFirst c.content
 
+-- a declaration, where so many object columns are open
 abbrev pub IsOrderlyAt : ℕ → Declaration → Type 0
 IsOrderlyAt count (declaration.Callers line path) = Unit {0}
 IsOrderlyAt count (declaration.Column c) = IsOrderlyColumn count c
@@ -56,6 +59,7 @@ count_behind count (declaration.Column c) = count_inside c.depth c.content
 count_behind count (declaration.Procedure p) = count
 count_behind count (declaration.View v) = count
 
+-- declarations, where so many object columns are open
 abbrev pub IsOrderlyFrom : ℕ → List Declaration → Type 0
 IsOrderlyFrom count [] = Unit {0}
 IsOrderlyFrom count (d ∷ ds) = IsOrderlyAt count d × IsOrderlyFrom (count_behind count d) ds

@@ -16,6 +16,7 @@ filled [] contents = []
 filled (n ∷ nodes) [] = n ∷ nodes
 filled (n ∷ nodes) (x ∷ contents) = holding n x ∷ filled nodes contents
 
+-- the tree of columns with what they hold, and what was resolved
 abbrev pub outline_of : List Node → Resolved → Outline
 outline_of nodes r = record { columns = filled nodes r.contents; callers = r.callers; procedures = r.procedures; views = r.views }
 

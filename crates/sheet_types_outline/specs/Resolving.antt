@@ -25,6 +25,7 @@ abbrev pub resolve_column : List Node → Resolved → Column → Answer Resolve
 resolve_column nodes r c =
     column_content nodes (length r.contents) c.depth c.content >>= λ x. Ok (record r { contents = r.contents ++ x ∷ [] })
 
+-- what a declaration holds
 abbrev pub resolve : List Node → Resolved → Declaration → Answer Resolved
 resolve nodes r (declaration.Callers line path) = object_column_at nodes path >>= λ c. Ok (record r { callers = c })
 resolve nodes r (declaration.Column c) = resolve_column nodes r c

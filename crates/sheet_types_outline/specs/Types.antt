@@ -26,6 +26,7 @@ abbrev pub follow : List Node → ℕ → List (List ℕ) → Option ℕ
 follow nodes c [] = Some c
 follow nodes c (name ∷ names) = option_and_then (λ d. follow nodes d names) (child_named nodes c name)
 
+-- whether there is an object column of that number
 abbrev pub is_object_column : List Node → ℕ → Bool
 is_object_column nodes c = unwrap_or (option_map holds_objects (column_of nodes c)) false
 
@@ -50,18 +51,21 @@ abbrev pub declared_kind : List Node → Option TypeName → Answer Kind
 declared_kind nodes None = Ok kind.Unknown
 declared_kind nodes (Some t) = kind_of nodes t
 
+-- the line of a first value
 abbrev pub literal_line : Literal → ℕ
 literal_line (literal.Number line n) = line
 literal_line (literal.Negative line n) = line
 literal_line (literal.Text line text) = line
 literal_line (literal.Truth line b) = line
 
+-- the type of a first value
 abbrev pub literal_kind : Literal → Kind
 literal_kind (literal.Number line n) = kind.Number
 literal_kind (literal.Negative line n) = kind.Number
 literal_kind (literal.Text line text) = kind.Text
 literal_kind (literal.Truth line b) = kind.Truth
 
+-- the value that a first value stands for
 abbrev pub literal_value : Literal → Value
 literal_value (literal.Number line n) = value.Number n
 literal_value (literal.Negative line n) = value.Number (neg_ℤ n)

@@ -22,6 +22,7 @@ form column.Object = column.Object
 form (column.State k one first) = column.State kind.Unknown one None
 form (column.Formula k) = column.Formula kind.Unknown
 
+-- the form of a declared column
 abbrev pub forms_at : Declaration → List Column
 forms_at (declaration.Callers line path) = []
 forms_at (declaration.Column c) = untyped c.content ∷ []

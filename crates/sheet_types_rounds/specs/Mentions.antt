@@ -10,6 +10,7 @@ use Rattle.sheet_syntax_trees.specs.declared.tree.Tree.{Tree, Number, Text, Trut
 use Rattle.sheet_types_formulas.specs.Typing.{typed}
 use Rattle.sheet_types_rounds.specs.Rounds.{is_unknown, kind_told, at_column}
 
+-- whether a name is one of these
 abbrev pub is_among : List (List ℕ) → List ℕ → Bool
 is_among names name = list_any (bytes_eq name) names
 

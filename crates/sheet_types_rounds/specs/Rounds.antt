@@ -47,6 +47,7 @@ abbrev pub kind_told : Answer Typed → Kind
 kind_told (Ok t) = t.kind
 kind_told (Err e) = kind.Unknown
 
+-- whether a type isn't known
 abbrev pub is_unknown : Kind → Bool
 is_unknown kind.Unknown = true
 is_unknown k = false

@@ -14,10 +14,12 @@ kind_of_column c column.Object = kind.Object c
 kind_of_column c (column.State k one first) = k
 kind_of_column c (column.Formula k) = k
 
+-- the types of columns by themselves, numbered from that number on
 abbrev pub kinds_from : ℕ → List Node → List Kind
 kinds_from c [] = []
 kinds_from c (n ∷ nodes) = kind_of_column c n.column ∷ kinds_from (c + 1) nodes
 
+-- the number of the column above; 0 for the root
 abbrev pub home_at : Option ℕ → ℕ
 home_at None = 0
 home_at (Some above) = above
@@ -34,10 +36,12 @@ IsKindIn nodes kind.Number = Unit {0}
 IsKindIn nodes kind.Text = Unit {0}
 IsKindIn nodes (kind.Object c) = column_of nodes c ≡ Some column.Object
 
+-- what a column holds is of a type in the tree
 abbrev pub IsHeldIn : List Node → Column → Type 0
 IsHeldIn nodes column.Object = Unit {0}
 IsHeldIn nodes (column.State k one first) = IsKindIn nodes k
 IsHeldIn nodes (column.Formula k) = IsKindIn nodes k
 
+-- the types of parameters are types in the tree
 abbrev pub AreKindsIn : List Node → List (List ℕ × Kind) → Type 0
 AreKindsIn nodes ps = AllByRecursion (λ (p : List ℕ × Kind). IsKindIn nodes p.1) ps

@@ -30,14 +30,17 @@ abbrev pub all_common : Kind → List Kind → Option Kind
 all_common k [] = Some k
 all_common k (l ∷ ls) = common k l >> (λ m. all_common m ls)
 
+-- whether it is an object column
 abbrev pub is_object : Option Column → Bool
 is_object (Some Object) = true
 is_object o = false
 
+-- whether it is a state column
 abbrev pub is_state : Option Column → Bool
 is_state (Some (State k one first)) = true
 is_state o = false
 
+-- whether it is a formula column
 abbrev pub is_formula : Option Column → Bool
 is_formula (Some (Formula k)) = true
 is_formula o = false

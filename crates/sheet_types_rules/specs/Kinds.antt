@@ -3,6 +3,7 @@ use Rattle.std.specs.Prelude.{ℕ, ◌==◌, Bool, true, false, if◌then◌else
 use Rattle.sheet_values.specs.declared.value.Kind.{Kind}
 use Rattle.sheet_values.specs.declared.value.Kind.TheVariants.{Unknown, Truth, Number, Text, Object}
 
+-- whether two types are the same
 abbrev pub same_kind : Kind → Kind → Bool
 same_kind Unknown Unknown = true
 same_kind Truth Truth = true

@@ -38,6 +38,7 @@ abbrev pub changes_state : Target → Core → List Node → List Kind → List 
 changes_state t e n k v =
     is_placed n (kind_in t.object n k v) t.column && is_state (column_of n t.column) && suits (slice_index_or k t.column kind.Unknown) (kind_in e n k v)
 
+-- whether a target is an object column directly under its objects
 abbrev pub makes_object : Target → List Node → List Kind → List Kind → Bool
 makes_object t n k v = is_placed n (kind_in t.object n k v) t.column && is_object (column_of n t.column)
 

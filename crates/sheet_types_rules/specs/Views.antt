@@ -21,6 +21,7 @@ abbrev pub is_table : List Node → List Kind → List Kind → ℕ → ℕ → 
 is_table n k v i j slots None = false
 is_table n k v i j slots (Some x) = (j == i) && are_slots slots n k (v ++ x ∷ []) (i + 1)
 
+-- whether a slot or a table is well typed and has the next number
 abbrev pub is_part : CoreView → List Node → List Kind → List Kind → ℕ → Bool
 is_part (view.Show s) n k v i = is_slot n k v i s
 is_part (view.Table j name e slots) n k v i = is_table n k v i j slots (kind_in e n k v)

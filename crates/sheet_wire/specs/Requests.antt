@@ -29,6 +29,7 @@ fields (object ms) = members_len ms
 abbrev pub is_key_byte : ℕ → Bool
 is_key_byte b = nat_le 0x21 b && nat_le b 0x7e
 
+-- whether a text is a key
 abbrev pub is_key : List ℕ → Bool
 is_key s = nat_lt 0 (length s) && nat_le (length s) 64 && list_all is_key_byte s
 
@@ -44,9 +45,11 @@ passing test a = if test a then Some a else None
 abbrev pub text_at : List ℕ → Data → Option (List ℕ)
 text_at field d = option_and_then as_str (get field d)
 
+-- the key in a field
 abbrev pub key_at : List ℕ → Data → Option (List ℕ)
 key_at field d = option_and_then (passing is_key) (text_at field d)
 
+-- the name in a field
 abbrev pub name_at : List ℕ → Data → Option (List ℕ)
 name_at field d = option_and_then (passing is_name) (text_at field d)
 
@@ -54,6 +57,7 @@ name_at field d = option_and_then (passing is_name) (text_at field d)
 abbrev pub is_request_number : ℕ → Bool
 is_request_number n = nat_le 1 n && nat_le n 9223372036854775807
 
+-- the request's number in a field
 abbrev pub number_at : List ℕ → Data → Option ℕ
 number_at field d = option_and_then (passing is_request_number) (option_and_then as_u64 (option_and_then as_number (get field d)))
 
@@ -61,10 +65,12 @@ number_at field d = option_and_then (passing is_request_number) (option_and_then
 abbrev pub integer_of : Data → Option Value
 integer_of d = option_map Number (option_and_then as_i64 (as_number d))
 
+-- integers in an array
 abbrev pub integers_of : Items → Option (List Value)
 integers_of no_items = Some []
 integers_of (item d ds) = option_and_then (λ v. option_map (λ vs. v ∷ vs) (integers_of ds)) (integer_of d)
 
+-- the integers in a field
 abbrev pub integers_at : List ℕ → Data → Option (List Value)
 integers_at field d = option_and_then integers_of (option_and_then as_array (get field d))
 

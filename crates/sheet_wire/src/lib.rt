@@ -10,6 +10,3 @@ pub use print::print_reply;
 pub use read::read_request;
 pub use reply::{Answer, Refusal, Reply, code_of};
 pub use request::{Request, Route, WireRefusal};
-
-#[cfg(test)]
-mod tests;

@@ -4,14 +4,14 @@ use crate::sheet::{
     no_slots, open, opened, rested_on, schema, scope, seen, show, showing, slot, table, with_part,
     with_slot,
 };
-use test_language_words::{
-    Built, Scope, Tree, Trouble, check, delete, formula, new, no_statements, repeat, reply,
-    root_column, set, then, with_formula, with_objects, with_state,
-};
 use sheet_columns::Core;
 use sheet_meaning::{Caller, Schema};
 use sheet_values::{Kind, Name, Value};
 use std::alloc::Global;
+use test_language_words::{
+    Built, Scope, Tree, Trouble, check, delete, formula, new, no_statements, repeat, reply,
+    root_column, set, then, with_formula, with_objects, with_state,
+};
 
 const COURSE: u32 = 1;
 

@@ -4,15 +4,15 @@ use crate::sheet::{
     rested_on, schema, scope, seen, show, showing, with_part,
 };
 use plain_meaning::table_after;
+use sheet_columns::{Column, Core};
+use sheet_meaning::Schema;
+use sheet_values::{Kind, Value};
+use std::alloc::Global;
 use test_language_replies::shown_text;
 use test_language_words::{
     Scope, Trouble, new, no_statements, root_column, set, then, with_column, with_formula,
     with_objects, with_state,
 };
-use sheet_columns::{Column, Core};
-use sheet_meaning::Schema;
-use sheet_values::{Kind, Value};
-use std::alloc::Global;
 
 fn turning(alloc: Global) -> Result<Schema, Trouble> {
     let column = Column::State {

@@ -1,12 +1,12 @@
 // What formulas come to, one by one, as the formula X of a workbook that has a formula Loop = Loop.
 use crate::sheet::{Sheet, Told, add_line, opened, schema, scope};
 use plain_meaning::{settled, value_of};
-use test_language_replies::shown_text;
-use test_language_words::{Trouble, formula, root_column, with_formula};
 use sheet_columns::{Core, Place};
 use sheet_meaning::Schema;
 use sheet_values::Kind;
 use std::alloc::Global;
+use test_language_replies::shown_text;
+use test_language_words::{Trouble, formula, root_column, with_formula};
 
 const FAULTS: &[&str] = &[
     "1 / 0 + (9223372036854775807 + 1)",

@@ -1,12 +1,12 @@
 // Sheets, with what is asked of them and done to them.
 use plain_meaning::{Stop, kept_by_view, page, view_support};
 use plain_procedures::{PlainBook, act, started};
-use test_language_replies::{items_text, page_text, refusal_text, set_text};
-use test_language_words::{Body, Built, Scope, Tree, Trouble, column_named, formula};
 use sheet_columns::{Columns, Core, CoreParts, CoreSlot, CoreSlots, CoreView, Sequence};
 use sheet_meaning::{Caller, ColumnFormula, Schema};
 use sheet_values::{Name, Value};
 use std::alloc::Global;
+use test_language_replies::{items_text, page_text, refusal_text, set_text};
+use test_language_words::{Body, Built, Scope, Tree, Trouble, column_named, formula};
 
 /// The formulas of the formula columns.
 type Formulas = Result<Sequence<ColumnFormula>, Trouble>;

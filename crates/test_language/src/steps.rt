@@ -3,15 +3,15 @@ use crate::cycles::{made, one};
 use crate::sheet::{
     OPERATOR, Sheet, Told, add_line, allowing, called, counts, opened, run, schema, scope,
 };
+use sheet_columns::Column;
+use sheet_meaning::Schema;
+use sheet_values::{Kind, Value};
+use std::alloc::Global;
 use test_language_words::{
     Body, Scope, Stated, Trouble, add, bind, branch, check, delete, formula, new, no_statements,
     remove, repeat, reply, root_column, set, then, with_column, with_formula, with_objects,
     with_state,
 };
-use sheet_columns::Column;
-use sheet_meaning::Schema;
-use sheet_values::{Kind, Value};
-use std::alloc::Global;
 
 /// A workbook with objects T that hold one number k each, a set xs and a number n of the root, and formulas over them.
 pub fn counting(alloc: Global) -> Result<Schema, Trouble> {

@@ -5,11 +5,11 @@ use crate::sheet::{
     slot, table, with_part, with_slot,
 };
 use crate::steps::counting;
-use test_language_words::{Trouble, formula};
 use sheet_columns::Core;
 use sheet_meaning::Schema;
 use sheet_values::Value;
 use std::alloc::Global;
+use test_language_words::{Trouble, formula};
 
 // A table whose source has a fault, beside a slot.
 fn faulty_table(alloc: Global, schema: &Schema) -> Result<View, Trouble> {

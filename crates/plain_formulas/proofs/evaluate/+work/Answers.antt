@@ -1,11 +1,14 @@
 use Rattle.std.proofs.Common.{ap, ◌∙◌}
 use Rattle.std.specs.Prelude.{map}
 use Rattle.plain_lists.specs.Told.{scene}
-use Rattle.sheet_columns.specs.declared.formula.Core.{ObjectStep, StateStep, FormulaStep, Up, Combine, Compare, Order, Arithmetic, Negate, Join, Not, Connect, Count, Only, Extreme}
+use Rattle.sheet_columns.specs.declared.formula.Core.{ObjectStep, StateStep, FormulaStep, Up, Combine, Compare, Order, Arithmetic, Negate, Join, Not, Connect}
+use Rattle.sheet_columns.specs.declared.formula.Core.{Count, Only, Extreme}
 use Rattle.sheet_meaning.specs.Run.{and_then}
 use Rattle.sheet_meaning.specs.Formula.{run, bind, step, extent_of, stored_of, worked_of, parent_of}
 use Rattle.plain_formulas.specs.Forms.{combined, compared, in_order, calculated, negated, joined_texts, denied, connected, counted, only, extreme_of}
-use Rattle.plain_formulas.proofs.Laws.{same_if_ok, pair_at, unary, binary, set_form, if_form, comprehension_form, sum_form, quantify_form, run-ObjectStep, run-StateStep, run-FormulaStep, run-Up, run-Combine, run-Compare, run-Order, run-Arithmetic, run-Negate, run-Join, run-Not, run-Connect, run-Count, run-Only, run-Extreme}
+use Rattle.plain_formulas.proofs.Laws.{same_if_ok, pair_at, unary, binary, set_form, if_form, comprehension_form, sum_form, quantify_form, run-ObjectStep}
+use Rattle.plain_formulas.proofs.Laws.{run-StateStep, run-FormulaStep, run-Up, run-Combine, run-Compare, run-Order, run-Arithmetic, run-Negate, run-Join}
+use Rattle.plain_formulas.proofs.Laws.{run-Not, run-Connect, run-Count, run-Only, run-Extreme}
 use Rattle.plain_formulas.proofs.evaluate.+work.Goals as goal
 
 pub work_out-returns-in_ok-objects-in-ObjectStep : goal.work_out-returns-in_ok-objects-in-ObjectStep
@@ -14,7 +17,8 @@ work_out-returns-in_ok-objects-in-ObjectStep t c =
     let p = c.args.place in
     let v = c.args.variables.now in
     same_if_ok c.stepped.result
-    (unary w p v (λ r. and_then r (step (extent_of w c.in-ObjectStep.column))) (λ e. ObjectStep e c.in-ObjectStep.column) (run-ObjectStep w p v c.in-ObjectStep.column) c.args.core.now _ _ _ c.in-ObjectStep.is c.get.ensures c.in_ok-objects-in-ObjectStep.ensures)
+    (unary w p v (λ r. and_then r (step (extent_of w c.in-ObjectStep.column))) (λ e. ObjectStep e c.in-ObjectStep.column)
+    (run-ObjectStep w p v c.in-ObjectStep.column) c.args.core.now _ _ _ c.in-ObjectStep.is c.get.ensures c.in_ok-objects-in-ObjectStep.ensures)
     c.stepped.ensures
 
 pub work_out-returns-in_ok-objects-in-StateStep : goal.work_out-returns-in_ok-objects-in-StateStep
@@ -23,7 +27,8 @@ work_out-returns-in_ok-objects-in-StateStep t c =
     let p = c.args.place in
     let v = c.args.variables.now in
     same_if_ok c.stepped-in-StateStep.result
-    (unary w p v (λ r. and_then r (step (stored_of w c.in-StateStep.column))) (λ e. StateStep e c.in-StateStep.column) (run-StateStep w p v c.in-StateStep.column) c.args.core.now _ _ _ c.in-StateStep.is c.get-in-StateStep.ensures c.in_ok-objects-in-StateStep.ensures)
+    (unary w p v (λ r. and_then r (step (stored_of w c.in-StateStep.column))) (λ e. StateStep e c.in-StateStep.column)
+    (run-StateStep w p v c.in-StateStep.column) c.args.core.now _ _ _ c.in-StateStep.is c.get-in-StateStep.ensures c.in_ok-objects-in-StateStep.ensures)
     c.stepped-in-StateStep.ensures
 
 pub work_out-returns-in_ok-objects-in-FormulaStep : goal.work_out-returns-in_ok-objects-in-FormulaStep
@@ -32,7 +37,9 @@ work_out-returns-in_ok-objects-in-FormulaStep t c =
     let p = c.args.place in
     let v = c.args.variables.now in
     same_if_ok c.stepped-in-FormulaStep.result
-    (unary w p v (λ r. and_then r (step (worked_of w c.in-FormulaStep.column))) (λ e. FormulaStep e c.in-FormulaStep.column) (run-FormulaStep w p v c.in-FormulaStep.column) c.args.core.now _ _ _ c.in-FormulaStep.is c.get-in-FormulaStep.ensures c.in_ok-objects-in-FormulaStep.ensures)
+    (unary w p v (λ r. and_then r (step (worked_of w c.in-FormulaStep.column))) (λ e. FormulaStep e c.in-FormulaStep.column)
+    (run-FormulaStep w p v c.in-FormulaStep.column) c.args.core.now _ _ _ c.in-FormulaStep.is c.get-in-FormulaStep.ensures
+    c.in_ok-objects-in-FormulaStep.ensures)
     c.stepped-in-FormulaStep.ensures
 
 pub work_out-returns-in_ok-objects-in-Up : goal.work_out-returns-in_ok-objects-in-Up
@@ -59,7 +66,8 @@ work_out-returns-in_ok-right-in-Combine t c =
     let p = c.args.place in
     let v = c.args.variables.now in
     same_if_ok c.combined.result
-    (binary w p v (combined c.in-Combine.operator) (Combine c.in-Combine.operator) (run-Combine w p v c.in-Combine.operator) c.args.core.now _ _ _ _ _ _ c.in-Combine.is c.get-in-Combine.ensures c.get-in-Combine-2.ensures c.in_ok-left-in-Combine.ensures c.in_ok-right-in-Combine.ensures)
+    (binary w p v (combined c.in-Combine.operator) (Combine c.in-Combine.operator) (run-Combine w p v c.in-Combine.operator) c.args.core.now _ _ _ _ _ _
+    c.in-Combine.is c.get-in-Combine.ensures c.get-in-Combine-2.ensures c.in_ok-left-in-Combine.ensures c.in_ok-right-in-Combine.ensures)
     c.combined.ensures
 
 pub work_out-returns-in_ok-right-in-Compare : goal.work_out-returns-in_ok-right-in-Compare
@@ -68,7 +76,8 @@ work_out-returns-in_ok-right-in-Compare t c =
     let p = c.args.place in
     let v = c.args.variables.now in
     same_if_ok c.compared.result
-    (binary w p v (compared c.in-Compare.test) (Compare c.in-Compare.test) (run-Compare w p v c.in-Compare.test) c.args.core.now _ _ _ _ _ _ c.in-Compare.is c.get-in-Compare.ensures c.get-in-Compare-2.ensures c.in_ok-left-in-Compare.ensures c.in_ok-right-in-Compare.ensures)
+    (binary w p v (compared c.in-Compare.test) (Compare c.in-Compare.test) (run-Compare w p v c.in-Compare.test) c.args.core.now _ _ _ _ _ _ c.in-Compare.is
+    c.get-in-Compare.ensures c.get-in-Compare-2.ensures c.in_ok-left-in-Compare.ensures c.in_ok-right-in-Compare.ensures)
     c.compared.ensures
 
 pub work_out-returns-in_ok-right-in-Order : goal.work_out-returns-in_ok-right-in-Order
@@ -77,7 +86,8 @@ work_out-returns-in_ok-right-in-Order t c =
     let p = c.args.place in
     let v = c.args.variables.now in
     same_if_ok c.in_order.result
-    (binary w p v (in_order c.in-Order.test p) (Order c.in-Order.test) (run-Order w p v c.in-Order.test) c.args.core.now _ _ _ _ _ _ c.in-Order.is c.get-in-Order.ensures c.get-in-Order-2.ensures c.in_ok-left-in-Order.ensures c.in_ok-right-in-Order.ensures)
+    (binary w p v (in_order c.in-Order.test p) (Order c.in-Order.test) (run-Order w p v c.in-Order.test) c.args.core.now _ _ _ _ _ _ c.in-Order.is
+    c.get-in-Order.ensures c.get-in-Order-2.ensures c.in_ok-left-in-Order.ensures c.in_ok-right-in-Order.ensures)
     c.in_order.ensures
 
 pub work_out-returns-in_ok-right-in-Arithmetic : goal.work_out-returns-in_ok-right-in-Arithmetic
@@ -86,7 +96,9 @@ work_out-returns-in_ok-right-in-Arithmetic t c =
     let p = c.args.place in
     let v = c.args.variables.now in
     same_if_ok c.calculated.result
-    (binary w p v (calculated c.in-Arithmetic.operator p) (Arithmetic c.in-Arithmetic.operator) (run-Arithmetic w p v c.in-Arithmetic.operator) c.args.core.now _ _ _ _ _ _ c.in-Arithmetic.is c.get-in-Arithmetic.ensures c.get-in-Arithmetic-2.ensures c.in_ok-left-in-Arithmetic.ensures c.in_ok-right-in-Arithmetic.ensures)
+    (binary w p v (calculated c.in-Arithmetic.operator p) (Arithmetic c.in-Arithmetic.operator) (run-Arithmetic w p v c.in-Arithmetic.operator) c.args.core.now
+    _ _ _ _ _ _ c.in-Arithmetic.is c.get-in-Arithmetic.ensures c.get-in-Arithmetic-2.ensures c.in_ok-left-in-Arithmetic.ensures
+    c.in_ok-right-in-Arithmetic.ensures)
     c.calculated.ensures
 
 pub work_out-returns-in_ok-part-in-Negate : goal.work_out-returns-in_ok-part-in-Negate
@@ -104,7 +116,8 @@ work_out-returns-in_ok-right-in-Join t c =
     let p = c.args.place in
     let v = c.args.variables.now in
     same_if_ok c.joined_texts.result
-    (binary w p v (joined_texts p) Join (run-Join w p v) c.args.core.now _ _ _ _ _ _ c.in-Join.is c.get-in-Join.ensures c.get-in-Join-2.ensures c.in_ok-left-in-Join.ensures c.in_ok-right-in-Join.ensures)
+    (binary w p v (joined_texts p) Join (run-Join w p v) c.args.core.now _ _ _ _ _ _ c.in-Join.is c.get-in-Join.ensures c.get-in-Join-2.ensures
+    c.in_ok-left-in-Join.ensures c.in_ok-right-in-Join.ensures)
     c.joined_texts.ensures
 
 pub work_out-returns-in_ok-part-in-Not : goal.work_out-returns-in_ok-part-in-Not
@@ -122,7 +135,8 @@ work_out-returns-in_ok-right-in-Connect t c =
     let p = c.args.place in
     let v = c.args.variables.now in
     same_if_ok c.connected.result
-    (binary w p v (connected c.in-Connect.connective p) (Connect c.in-Connect.connective) (run-Connect w p v c.in-Connect.connective) c.args.core.now _ _ _ _ _ _ c.in-Connect.is c.get-in-Connect.ensures c.get-in-Connect-2.ensures c.in_ok-left-in-Connect.ensures c.in_ok-right-in-Connect.ensures)
+    (binary w p v (connected c.in-Connect.connective p) (Connect c.in-Connect.connective) (run-Connect w p v c.in-Connect.connective) c.args.core.now _ _ _ _ _
+    _ c.in-Connect.is c.get-in-Connect.ensures c.get-in-Connect-2.ensures c.in_ok-left-in-Connect.ensures c.in_ok-right-in-Connect.ensures)
     c.connected.ensures
 
 pub work_out-returns-in_ok-right-in-If : goal.work_out-returns-in_ok-right-in-If
@@ -131,7 +145,8 @@ work_out-returns-in_ok-right-in-If t c =
     let p = c.args.place in
     let v = c.args.variables.now in
     same_if_ok c.chosen.result
-    (if_form w p v c.args.core.now _ _ _ _ _ _ _ _ _ c.in-If.is c.get-in-If.ensures c.get-in-If-2.ensures c.get-in-If-3.ensures c.in_ok-condition-in-If.ensures c.in_ok-left-in-If.ensures c.in_ok-right-in-If.ensures)
+    (if_form w p v c.args.core.now _ _ _ _ _ _ _ _ _ c.in-If.is c.get-in-If.ensures c.get-in-If-2.ensures c.get-in-If-3.ensures c.in_ok-condition-in-If.ensures
+    c.in_ok-left-in-If.ensures c.in_ok-right-in-If.ensures)
     c.chosen.ensures
 
 pub work_out-returns-in_ok-set-in-Count : goal.work_out-returns-in_ok-set-in-Count
@@ -158,7 +173,8 @@ work_out-returns-in_ok-set-in-Extreme t c =
     let p = c.args.place in
     let v = c.args.variables.now in
     same_if_ok c.extreme_of.result
-    (unary w p v (extreme_of c.in-Extreme.extremum p) (Extreme c.in-Extreme.extremum) (run-Extreme w p v c.in-Extreme.extremum) c.args.core.now _ _ _ c.in-Extreme.is c.get-in-Extreme.ensures c.in_ok-set-in-Extreme.ensures)
+    (unary w p v (extreme_of c.in-Extreme.extremum p) (Extreme c.in-Extreme.extremum) (run-Extreme w p v c.in-Extreme.extremum) c.args.core.now _ _ _
+    c.in-Extreme.is c.get-in-Extreme.ensures c.in_ok-set-in-Extreme.ensures)
     c.extreme_of.ensures
 
 pub work_out-returns-in_ok-pairs-in-Comprehension : goal.work_out-returns-in_ok-pairs-in-Comprehension
@@ -167,8 +183,10 @@ work_out-returns-in_ok-pairs-in-Comprehension t c =
     let p = c.args.place in
     let v = c.args.variables.now in
     same_if_ok c.comprehended.result
-    (comprehension_form w p v c.args.core.now _ _ _ _ _ _ _ _ c.in-Comprehension.is c.get-in-Comprehension-3.ensures c.get-in-Comprehension.ensures c.get-in-Comprehension-2.ensures c.in_ok-source-in-Comprehension.ensures
-    (c.in_ok-pairs-in-Comprehension.ensures ∙ ap (map (pair_at w p v c.get-in-Comprehension-2.result.now c.get-in-Comprehension-3.result.now)) c.values_of.ensures))
+    (comprehension_form w p v c.args.core.now _ _ _ _ _ _ _ _ c.in-Comprehension.is c.get-in-Comprehension-3.ensures c.get-in-Comprehension.ensures
+    c.get-in-Comprehension-2.ensures c.in_ok-source-in-Comprehension.ensures
+    (c.in_ok-pairs-in-Comprehension.ensures ∙ ap (map (pair_at w p v c.get-in-Comprehension-2.result.now c.get-in-Comprehension-3.result.now))
+    c.values_of.ensures))
     c.comprehended.ensures
 
 pub work_out-returns-in_ok-pairs-in-Sum : goal.work_out-returns-in_ok-pairs-in-Sum
@@ -187,6 +205,7 @@ work_out-returns-in_ok-conditions-in-Quantify t c =
     let p = c.args.place in
     let v = c.args.variables.now in
     same_if_ok c.quantified.result
-    (quantify_form w p v c.in-Quantify.quantifier c.args.core.now _ _ _ _ _ _ c.in-Quantify.is c.get-in-Quantify.ensures c.get-in-Quantify-2.ensures c.in_ok-source-in-Quantify.ensures
+    (quantify_form w p v c.in-Quantify.quantifier c.args.core.now _ _ _ _ _ _ c.in-Quantify.is c.get-in-Quantify.ensures c.get-in-Quantify-2.ensures
+    c.in_ok-source-in-Quantify.ensures
     (c.in_ok-conditions-in-Quantify.ensures ∙ ap (map (λ x. run c.get-in-Quantify-2.result.now w p (bind v x))) c.values_of-in-Quantify.ensures))
     c.quantified.ensures

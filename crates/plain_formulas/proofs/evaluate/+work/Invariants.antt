@@ -24,4 +24,7 @@ abbrev pub invariant-each-loop-value : goal.invariant-each-loop-value
 invariant-each-loop-value l = l.list.items ≡ map (λ x. run l.core (scene l.state l.worked) l.place (bind l.variables x)) (take l.value-index l.values)
 
 abbrev pub invariant-each_pair-loop-value : goal.invariant-each_pair-loop-value
-invariant-each_pair-loop-value l = l.list.items ≡ map (λ x. (run l.condition (scene l.state l.worked) l.place (bind l.variables x), run l.body (scene l.state l.worked) l.place (bind l.variables x))) (take l.value-index l.values)
+invariant-each_pair-loop-value l =
+    l.list.items ≡ map
+    (λ x. (run l.condition (scene l.state l.worked) l.place (bind l.variables x), run l.body (scene l.state l.worked) l.place (bind l.variables x)))
+    (take l.value-index l.values)

@@ -6,4 +6,5 @@ use Rattle.plain_meaning.proofs.reaching.reached.Goals as goal
 
 pub returns : goal.returns
 returns c =
-    same_items_if_ok c.reached_by.result (reached_same (workbook c.args.schema.now c.args.state.now) _ (c.as_slice.ensures.value ∙ c.in_ok-runs.ensures) c.args.uses.now) c.reached_by.ensures
+    same_items_if_ok c.reached_by.result (reached_same (workbook c.args.schema.now c.args.state.now) _ (c.as_slice.ensures.value ∙ c.in_ok-runs.ensures)
+    c.args.uses.now) c.reached_by.ensures

@@ -6,4 +6,5 @@ use Rattle.plain_meaning.proofs.reaching.support.Goals as goal
 
 pub returns : goal.returns
 returns c =
-    same_if_ok c.support_by.result (support_same (workbook c.args.schema.now c.args.state.now) _ (c.as_slice.ensures.value ∙ c.in_ok-runs.ensures) c.args.uses.now) c.support_by.ensures
+    same_if_ok c.support_by.result (support_same (workbook c.args.schema.now c.args.state.now) _ (c.as_slice.ensures.value ∙ c.in_ok-runs.ensures)
+    c.args.uses.now) c.support_by.ensures

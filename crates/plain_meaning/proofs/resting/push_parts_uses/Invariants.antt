@@ -8,4 +8,6 @@ abbrev pub decreases-loop-view : goal.decreases-loop-view
 decreases-loop-view l = length l.rest
 
 abbrev pub invariant-loop-view : goal.invariant-loop-view
-invariant-loop-view l = l.uses ++ flat_map (part_uses (workbook l.schema l.state) l.variables) l.rest ≡ l.fn.uses ++ flat_map (part_uses (workbook l.schema l.state) l.variables) l.views
+invariant-loop-view l =
+    l.uses ++ flat_map (part_uses (workbook l.schema l.state) l.variables) l.rest ≡ l.fn.uses ++ flat_map (part_uses (workbook l.schema l.state) l.variables)
+    l.views

@@ -8,4 +8,6 @@ abbrev pub decreases-loop-value : goal.decreases-loop-value
 decreases-loop-value l = length l.rest
 
 abbrev pub invariant-loop-value : goal.invariant-loop-value
-invariant-loop-value l = l.uses ++ flat_map (row_uses (workbook l.schema l.state) l.variables l.slots) l.rest ≡ l.fn.uses ++ flat_map (row_uses (workbook l.schema l.state) l.variables l.slots) l.values
+invariant-loop-value l =
+    l.uses ++ flat_map (row_uses (workbook l.schema l.state) l.variables l.slots) l.rest ≡ l.fn.uses ++ flat_map
+    (row_uses (workbook l.schema l.state) l.variables l.slots) l.values

@@ -9,4 +9,5 @@ abbrev pub decreases-loop-view : goal.decreases-loop-view
 decreases-loop-view l = length l.rest
 
 abbrev pub invariant-loop-view : goal.invariant-loop-view
-invariant-loop-view l = map as_part l.list ++ map (part_of (workbook l.schema l.state) l.variables) l.rest ≡ map (part_of (workbook l.schema l.state) l.variables) l.views
+invariant-loop-view l =
+    map as_part l.list ++ map (part_of (workbook l.schema l.state) l.variables) l.rest ≡ map (part_of (workbook l.schema l.state) l.variables) l.views

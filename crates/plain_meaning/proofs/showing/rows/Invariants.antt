@@ -9,4 +9,5 @@ abbrev pub decreases-loop-value : goal.decreases-loop-value
 decreases-loop-value l = length l.rest
 
 abbrev pub invariant-loop-value : goal.invariant-loop-value
-invariant-loop-value l = map as_row l.list ++ map (row (workbook l.schema l.state) l.variables l.slots) l.rest ≡ map (row (workbook l.schema l.state) l.variables l.slots) l.values
+invariant-loop-value l =
+    map as_row l.list ++ map (row (workbook l.schema l.state) l.variables l.slots) l.rest ≡ map (row (workbook l.schema l.state) l.variables l.slots) l.values

@@ -9,4 +9,6 @@ abbrev pub decreases-loop-slot : goal.decreases-loop-slot
 decreases-loop-slot l = length l.rest
 
 abbrev pub invariant-loop-slot : goal.invariant-loop-slot
-invariant-loop-slot l = l.list ++ map (λ (slot : CoreSlot). (slot_run (workbook l.schema l.state) l.variables slot).outcome) l.rest ≡ map (λ (slot : CoreSlot). (slot_run (workbook l.schema l.state) l.variables slot).outcome) l.slots
+invariant-loop-slot l =
+    l.list ++ map (λ (slot : CoreSlot). (slot_run (workbook l.schema l.state) l.variables slot).outcome) l.rest ≡ map
+    (λ (slot : CoreSlot). (slot_run (workbook l.schema l.state) l.variables slot).outcome) l.slots

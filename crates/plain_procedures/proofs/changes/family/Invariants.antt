@@ -8,4 +8,6 @@ abbrev pub decreases-loop-first : goal.decreases-loop-first
 decreases-loop-first l = length l.rest
 
 abbrev pub invariant-loop-first : goal.invariant-loop-first
-invariant-loop-first l = fold (λ ns (x : LiveObject). if x.number == l.object || has_parent_in ns x.parent then ns ++ x.number ∷ [] else ns) l.list.items l.rest ≡ family l.objects l.object
+invariant-loop-first l =
+    fold (λ ns (x : LiveObject). if x.number == l.object || has_parent_in ns x.parent then ns ++ x.number ∷ [] else ns) l.list.items l.rest ≡ family l.objects
+    l.object

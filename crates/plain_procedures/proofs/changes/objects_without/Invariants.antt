@@ -8,4 +8,6 @@ abbrev pub decreases-loop-object : goal.decreases-loop-object
 decreases-loop-object l = length l.rest
 
 abbrev pub invariant-loop-object : goal.invariant-loop-object
-invariant-loop-object l = l.list ++ filter (λ (x : LiveObject). not (has_number l.numbers x.number)) l.rest ≡ filter (λ (x : LiveObject). not (has_number l.numbers x.number)) l.objects
+invariant-loop-object l =
+    l.list ++ filter (λ (x : LiveObject). not (has_number l.numbers x.number)) l.rest ≡ filter (λ (x : LiveObject). not (has_number l.numbers x.number))
+    l.objects

@@ -22,7 +22,9 @@ abbrev pub decreases-run_turns : goal.decreases-run_turns
 decreases-run_turns l = 4 * goal.size-run_turns l + 3
 
 abbrev pub invariant-run_statements-loop-statement : goal.invariant-run_statements-loop-statement
-invariant-run_statements-loop-statement l = chain (λ x q. run_statement x l.schema q) (take l.statement-index l.statements) (as_point l.initial.point) ≡ Ok (as_point l.point)
+invariant-run_statements-loop-statement l =
+    chain (λ x q. run_statement x l.schema q) (take l.statement-index l.statements) (as_point l.initial.point) ≡ Ok (as_point l.point)
 
 abbrev pub invariant-run_turns-loop-value : goal.invariant-run_turns-loop-value
-invariant-run_turns-loop-value l = chain (turn (run_statements l.body l.schema)) (take l.value-index l.values) (as_point l.initial.point) ≡ Ok (as_point l.point)
+invariant-run_turns-loop-value l =
+    chain (turn (run_statements l.body l.schema)) (take l.value-index l.values) (as_point l.initial.point) ≡ Ok (as_point l.point)

@@ -22,5 +22,6 @@ decreases-statements l = 6 * l.room + 4
 
 abbrev pub invariant-statements-loop : goal.invariant-statements-loop
 invariant-statements-loop l =
-    with_front l.list (many l.text_length (statement_by (usual l.text_length) (λ behind. block (usual l.text_length) l.room behind)) (l.end - l.counter) l.remaining)
+    with_front l.list (many l.text_length (statement_by (usual l.text_length) (λ behind. block (usual l.text_length) l.room behind)) (l.end - l.counter)
+    l.remaining)
     ≡ many l.text_length (statement_by (usual l.text_length) (λ behind. block (usual l.text_length) l.room behind)) (length l.rest) l.rest

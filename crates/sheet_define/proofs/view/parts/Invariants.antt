@@ -3,4 +3,6 @@ use Rattle.sheet_define_reading.specs.Reading.{usual, with_front, many, part_by}
 use Rattle.sheet_define.proofs.view.parts.Given as goal
 
 abbrev pub invariant-loop : goal.invariant-loop
-invariant-loop l = with_front l.list (many l.text_length (part_by (usual l.text_length)) (l.end - l.counter) l.remaining) ≡ many l.text_length (part_by (usual l.text_length)) (length l.rest) l.rest
+invariant-loop l =
+    with_front l.list (many l.text_length (part_by (usual l.text_length)) (l.end - l.counter) l.remaining) ≡ many l.text_length (part_by (usual l.text_length))
+    (length l.rest) l.rest

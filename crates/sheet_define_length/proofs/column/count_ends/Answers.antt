@@ -17,4 +17,5 @@ loop-left-preserved c =
 pub returns : goal.returns
 returns c =
     c.loop-left.invariant.1 c.loop-left.sum
-    (subst (λ t. Counts c.loop-left.sum c.loop-left.sum t) (sym (closing_none c.loop-left.left c.args.depth c.loop-left-test.false)) (none c.loop-left.sum c.loop-left.invariant.0))
+    (subst (λ t. Counts c.loop-left.sum c.loop-left.sum t) (sym (closing_none c.loop-left.left c.args.depth c.loop-left-test.false))
+    (none c.loop-left.sum c.loop-left.invariant.0))

@@ -8,4 +8,5 @@ decreases-loop-left l = l.left
 
 -- what closes the braces that are left makes it whole
 abbrev pub invariant-loop-left : goal.invariant-loop-left
-invariant-loop-left l = (l.sum < 2 ^ 64) × ((e : ℕ) → Counts l.sum e (closings (l.left - l.depth) l.depth) → Counts l.total e (closings (l.fn.from - l.depth) l.depth))
+invariant-loop-left l =
+    (l.sum < 2 ^ 64) × ((e : ℕ) → Counts l.sum e (closings (l.left - l.depth) l.depth) → Counts l.total e (closings (l.fn.from - l.depth) l.depth))

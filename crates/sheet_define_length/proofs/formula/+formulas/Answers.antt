@@ -1,5 +1,6 @@
 use Rattle.std.proofs.Common.{sym}
-use Rattle.sheet_syntax_print.proofs.Laws.{text-Child, text-Up, text-Negate, text-Not, text-Binary, text-If, text-Call, text-Gather, text-GatherWhere, text-Test, text-Set}
+use Rattle.sheet_syntax_print.proofs.Laws.{text-Child, text-Up, text-Negate, text-Not, text-Binary, text-If, text-Call, text-Gather, text-GatherWhere}
+use Rattle.sheet_syntax_print.proofs.Laws.{text-Test, text-Set}
 use Rattle.sheet_define_length.proofs.formula.+formulas.Goals as goal
 
 pub count_formula-returns-in-Child : goal.count_formula-returns-in-Child
@@ -27,7 +28,9 @@ pub count_formula-returns-in-Gather : goal.count_formula-returns-in-Gather
 count_formula-returns-in-Gather t c = rw (c.in-Gather.is, text-Gather, sym c.get-in-Gather.ensures, sym c.get-in-Gather-2.ensures) c.count_gathered.ensures
 
 pub count_formula-returns-in-GatherWhere : goal.count_formula-returns-in-GatherWhere
-count_formula-returns-in-GatherWhere t c = rw (c.in-GatherWhere.is, text-GatherWhere, sym c.get-in-GatherWhere.ensures, sym c.get-in-GatherWhere-2.ensures, sym c.get-in-GatherWhere-3.ensures) c.count_chosen.ensures
+count_formula-returns-in-GatherWhere t c =
+    rw (c.in-GatherWhere.is, text-GatherWhere, sym c.get-in-GatherWhere.ensures, sym c.get-in-GatherWhere-2.ensures, sym c.get-in-GatherWhere-3.ensures)
+    c.count_chosen.ensures
 
 pub count_formula-returns-in-Test : goal.count_formula-returns-in-Test
 count_formula-returns-in-Test t c = rw (c.in-Test.is, text-Test, sym c.get-in-Test.ensures, sym c.get-in-Test-2.ensures) c.count_test.ensures

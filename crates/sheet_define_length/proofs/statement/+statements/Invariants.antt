@@ -32,4 +32,5 @@ abbrev pub decreases-count_statements : goal.decreases-count_statements
 decreases-count_statements l = 5 * goal.size-count_statements l + 1
 
 abbrev pub invariant-count_statements-loop-statement : goal.invariant-count_statements-loop-statement
-invariant-count_statements-loop-statement l = (m : List ℕ) → Counts 0 l.width m → Counts l.total l.sum (flat_map (λ x. statement_text x m) (take l.statement-index l.statements))
+invariant-count_statements-loop-statement l = (m : List ℕ) → Counts 0 l.width m →
+    Counts l.total l.sum (flat_map (λ x. statement_text x m) (take l.statement-index l.statements))

@@ -12,4 +12,5 @@ loop-left-preserved c =
 
 pub returns : goal.returns
 returns c =
-    sym (append-nil c.loop-left.out.items) ∙ ap (λ l. c.loop-left.out.items ++ l) (sym (closing_none c.loop-left.left c.args.depth c.loop-left-test.false)) ∙ c.loop-left.invariant
+    sym (append-nil c.loop-left.out.items) ∙ ap (λ l. c.loop-left.out.items ++ l) (sym (closing_none c.loop-left.left c.args.depth c.loop-left-test.false))
+    ∙ c.loop-left.invariant

@@ -13,7 +13,8 @@ loop-k-init c =
     let none = none_yet c.args.columns.now c.count-k-end.ensures.tree.first c.args.above in
     let t = c.args.tables.now.present in
     record {
-      rows = sym (no_rows t c.args.object) ∙ ap (λ ks. with_rows t c.args.object ks []) (sym none.0) ∙ ap (λ ks. with_rows t c.args.object (state_columns (schema_of (take 1 c.args.columns.now)) c.args.above) ks) (sym none.1);
+      rows = sym (no_rows t c.args.object) ∙ ap (λ ks. with_rows t c.args.object ks []) (sym none.0)
+          ∙ ap (λ ks. with_rows t c.args.object (state_columns (schema_of (take 1 c.args.columns.now)) c.args.above) ks) (sym none.1);
       earlier = refl;
       items = ap (λ ks. with_items c.args.items.now (filter_map (item_of c.args.object) ks)) (sym none.0);
     }
@@ -52,7 +53,8 @@ returns c =
     let all : take c.loop-k.k nodes ≡ nodes = take_all c.loop-k.k nodes (omega (arith, c.count-k-end.ensures.count, c.loop-k-test.false)) in
     let i = c.loop-k.invariant in
     record {
-      rows = i.rows ∙ ap (λ ns. with_rows c.args.tables.now.present c.args.object (state_columns (schema_of ns) c.args.above) (object_columns ns c.args.above)) all;
+      rows = i.rows ∙ ap (λ ns. with_rows c.args.tables.now.present c.args.object (state_columns (schema_of ns) c.args.above) (object_columns ns c.args.above))
+          all;
       earlier = i.earlier;
       items = i.items ∙ ap (λ ns. with_items c.args.items.now (filter_map (item_of c.args.object) (state_columns (schema_of ns) c.args.above))) all;
     }

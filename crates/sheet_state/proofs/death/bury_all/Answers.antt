@@ -15,7 +15,8 @@ pub bury-requires : goal.bury-requires
 bury-requires c =
     let i = c.loop-place.invariant in
     let long = i.long in
-    let lt = (fits_rest (length c.args.tables.now.present.objects) c.in-Some.place c.loop-place.places.keys c.pop_first.new.self.keys c.in-Some.ensures.removal i.fits).0 in
+    let lt = (fits_rest (length c.args.tables.now.present.objects) c.in-Some.place c.loop-place.places.keys c.pop_first.new.self.keys c.in-Some.ensures.removal
+    i.fits).0 in
     omega (arith, lt, long)
 
 pub loop-place-preserved : goal.loop-place-preserved
@@ -34,31 +35,44 @@ loop-place-preserved c =
     let rows : c.bury.new.tables.present.objects ≡ new = ap (λ (v : Table). v.objects) b.present in
     let start = totals c.args.items.now c.args.counters.objects c.args.counters.cells in
     let before = totals c.loop-place.items c.loop-place.objects c.loop-place.cells in
-    let total : totals c.bury.new.items c.saturating_sub-objects.result c.saturating_sub-cells.result ≡ with_row (buried_items d) (lost_objects d) (lost_cells c.args.columns.now d) before (object_row ys p) =
+    let total : totals c.bury.new.items c.saturating_sub-objects.result c.saturating_sub-cells.result ≡ with_row (buried_items d) (lost_objects d)
+    (lost_cells c.args.columns.now d) before (object_row ys p) =
     ap (λ l. totals l c.saturating_sub-objects.result c.saturating_sub-cells.result) b.items
-    ∙ ap (λ n. totals (with_items c.loop-place.items (buried_items d (object_row ys p))) n c.saturating_sub-cells.result) (c.saturating_sub-objects.ensures ∙ ap (λ n. c.loop-place.objects - n) b.objects)
-    ∙ ap (λ n. totals (with_items c.loop-place.items (buried_items d (object_row ys p))) (c.loop-place.objects - lost_objects d (object_row ys p)) n) (c.saturating_sub-cells.ensures ∙ ap (λ n. c.loop-place.cells - n) b.cells) in
-    let v = subst (Visited (buried d) (with_row (buried_items d) (lost_objects d) (lost_cells c.args.columns.now d)) (quiet_object c.args.columns.now d) xs ys start before) removal i.visited in
+    ∙ ap (λ n. totals (with_items c.loop-place.items (buried_items d (object_row ys p))) n c.saturating_sub-cells.result) (c.saturating_sub-objects.ensures
+    ∙ ap (λ n. c.loop-place.objects - n) b.objects)
+    ∙ ap (λ n. totals (with_items c.loop-place.items (buried_items d (object_row ys p))) (c.loop-place.objects - lost_objects d (object_row ys p)) n)
+    (c.saturating_sub-cells.ensures ∙ ap (λ n. c.loop-place.cells - n) b.cells) in
+    let v = subst (Visited (buried d) (with_row (buried_items d) (lost_objects d) (lost_cells c.args.columns.now d)) (quiet_object c.args.columns.now d) xs ys
+    start before) removal i.visited in
     record {
       present = b.present ∙ ap (λ (v : Table). with_objects v new) i.present ∙ ap (with_objects t) (sym rows);
       earlier = c.bury.ensures.earlier ∙ i.earlier;
       long = ap length rows ∙ length_set ys p (buried d (object_row ys p)) ∙ i.long;
       fits = fits.1;
       visited =
-          subst (λ ls. Visited (buried d) (with_row (buried_items d) (lost_objects d) (lost_cells c.args.columns.now d)) (quiet_object c.args.columns.now d) xs ls start (totals c.bury.new.items c.saturating_sub-objects.result c.saturating_sub-cells.result) rest) (sym rows)
-          (subst (λ s. Visited (buried d) (with_row (buried_items d) (lost_objects d) (lost_cells c.args.columns.now d)) (quiet_object c.args.columns.now d) xs new start s rest) (sym total)
-          (turn (buried d) (with_row (buried_items d) (lost_objects d) (lost_cells c.args.columns.now d)) (quiet_object c.args.columns.now d) xs ys start before p rest none (each_above p rest c.in-Some.ensures.all_above) fits.0 v));
+          subst (λ ls. Visited (buried d) (with_row (buried_items d) (lost_objects d) (lost_cells c.args.columns.now d)) (quiet_object c.args.columns.now d) xs
+          ls start (totals c.bury.new.items c.saturating_sub-objects.result c.saturating_sub-cells.result) rest) (sym rows)
+          (subst (λ s. Visited (buried d) (with_row (buried_items d) (lost_objects d) (lost_cells c.args.columns.now d)) (quiet_object c.args.columns.now d) xs
+          new start s rest) (sym total)
+          (turn (buried d) (with_row (buried_items d) (lost_objects d) (lost_cells c.args.columns.now d)) (quiet_object c.args.columns.now d) xs ys start before
+          p rest none (each_above p rest c.in-Some.ensures.all_above) fits.0 v));
     }
 
-ended : (c : goal.In_default) → (c.loop-place.tables.present.objects ≡ map (buried c.args.doomed.now) c.args.tables.now.present.objects) × (totals c.loop-place.items c.loop-place.objects c.loop-place.cells ≡ totals (with_items c.args.items.now (flat_map (buried_items c.args.doomed.now) c.args.tables.now.present.objects)) (c.args.counters.objects - sum_by (lost_objects c.args.doomed.now) c.args.tables.now.present.objects) (c.args.counters.cells - sum_by (lost_cells c.args.columns.now c.args.doomed.now) c.args.tables.now.present.objects))
+ended : (c : goal.In_default) →
+    (c.loop-place.tables.present.objects ≡ map (buried c.args.doomed.now) c.args.tables.now.present.objects) × (totals c.loop-place.items c.loop-place.objects
+    c.loop-place.cells ≡ totals (with_items c.args.items.now (flat_map (buried_items c.args.doomed.now) c.args.tables.now.present.objects))
+    (c.args.counters.objects - sum_by (lost_objects c.args.doomed.now) c.args.tables.now.present.objects)
+    (c.args.counters.cells - sum_by (lost_cells c.args.columns.now c.args.doomed.now) c.args.tables.now.present.objects))
 ended c =
     let d = c.args.doomed.now in
     let xs = c.args.tables.now.present.objects in
     let i = c.loop-place.invariant in
     let nil = none_waits c.loop-place.places.keys (λ lt. let some = c.in_default.ensures.variant.1 lt in cc) in
     let start = totals c.args.items.now c.args.counters.objects c.args.counters.cells in
-    let v = subst (Visited (buried d) (with_row (buried_items d) (lost_objects d) (lost_cells c.args.columns.now d)) (quiet_object c.args.columns.now d) xs c.loop-place.tables.present.objects start (totals c.loop-place.items c.loop-place.objects c.loop-place.cells)) nil i.visited in
-    let e = ends (buried d) (with_row (buried_items d) (lost_objects d) (lost_cells c.args.columns.now d)) (quiet_object c.args.columns.now d) xs c.loop-place.tables.present.objects start (totals c.loop-place.items c.loop-place.objects c.loop-place.cells) none v in
+    let v = subst (Visited (buried d) (with_row (buried_items d) (lost_objects d) (lost_cells c.args.columns.now d)) (quiet_object c.args.columns.now d) xs
+    c.loop-place.tables.present.objects start (totals c.loop-place.items c.loop-place.objects c.loop-place.cells)) nil i.visited in
+    let e = ends (buried d) (with_row (buried_items d) (lost_objects d) (lost_cells c.args.columns.now d)) (quiet_object c.args.columns.now d) xs
+    c.loop-place.tables.present.objects start (totals c.loop-place.items c.loop-place.objects c.loop-place.cells) none v in
     (e.0, e.1 ∙ all_told (buried_items d) (lost_objects d) (lost_cells c.args.columns.now d) xs c.args.items.now c.args.counters.objects c.args.counters.cells)
 
 pub returns-clause-present : goal.returns-clause-present

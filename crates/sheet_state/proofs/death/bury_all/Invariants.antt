@@ -11,7 +11,9 @@ invariant-loop-place l = record {
   earlier : l.tables.earlier ≡ l.fn.tables.earlier;
   long : length l.tables.present.objects ≡ length l.fn.tables.present.objects;
   fits : Fits (length l.fn.tables.present.objects) l.places.keys;
-  visited : Visited (buried l.doomed) (with_row (buried_items l.doomed) (lost_objects l.doomed) (lost_cells l.columns l.doomed)) (quiet_object l.columns l.doomed) l.fn.tables.present.objects l.tables.present.objects (totals l.fn.items l.fn.counters.objects l.fn.counters.cells) (totals l.items l.objects l.cells) l.places.keys;
+  visited : Visited (buried l.doomed) (with_row (buried_items l.doomed) (lost_objects l.doomed) (lost_cells l.columns l.doomed))
+      (quiet_object l.columns l.doomed) l.fn.tables.present.objects l.tables.present.objects (totals l.fn.items l.fn.counters.objects l.fn.counters.cells)
+      (totals l.items l.objects l.cells) l.places.keys;
 }
 
 abbrev pub decreases-loop-place : goal.decreases-loop-place

@@ -16,7 +16,8 @@ pub sweep_cell-requires : goal.sweep_cell-requires
 sweep_cell-requires c =
     let i = c.loop-place.invariant in
     let long = i.long in
-    let lt = (fits_rest (length c.args.tables.now.present.cells) c.in-Some.place c.loop-place.places.keys c.pop_first.new.self.keys c.in-Some.ensures.removal i.fits).0 in
+    let lt = (fits_rest (length c.args.tables.now.present.cells) c.in-Some.place c.loop-place.places.keys c.pop_first.new.self.keys c.in-Some.ensures.removal
+    i.fits).0 in
     omega (arith, lt, long)
 
 pub loop-place-preserved : goal.loop-place-preserved
@@ -35,8 +36,10 @@ loop-place-preserved c =
     let rows : c.sweep_cell.new.tables.present.cells ≡ new = ap (λ (v : Table). v.cells) b.present in
     let start = totals c.args.items.now c.args.values 0 in
     let before = totals c.loop-place.items c.loop-place.left 0 in
-    let total : totals c.sweep_cell.new.items c.saturating_sub-left.result 0 ≡ with_row (swept_items Stored d) (lost d) (λ (q : SetRow). 0) before (set_row ys p) =
-    ap (λ l. totals l c.saturating_sub-left.result 0) b.items ∙ ap (λ n. totals (with_items c.loop-place.items (swept_items Stored d (set_row ys p))) n 0) (c.saturating_sub-left.ensures ∙ ap (λ n. c.loop-place.left - n) b.gone) in
+    let total : totals c.sweep_cell.new.items c.saturating_sub-left.result 0 ≡ with_row (swept_items Stored d) (lost d) (λ (q : SetRow). 0) before
+    (set_row ys p) =
+    ap (λ l. totals l c.saturating_sub-left.result 0) b.items ∙ ap (λ n. totals (with_items c.loop-place.items (swept_items Stored d (set_row ys p))) n 0)
+    (c.saturating_sub-left.ensures ∙ ap (λ n. c.loop-place.left - n) b.gone) in
     let v = subst (Visited (swept d) (with_row (swept_items Stored d) (lost d) (λ (q : SetRow). 0)) (quiet_cell d) xs ys start before) removal i.visited in
     record {
       present = b.present ∙ ap (λ (v : Table). with_cells v new) i.present ∙ ap (with_cells t) (sym rows);
@@ -44,20 +47,27 @@ loop-place-preserved c =
       long = ap length rows ∙ length_set ys p (swept d (set_row ys p)) ∙ i.long;
       fits = fits.1;
       visited =
-          subst (λ ls. Visited (swept d) (with_row (swept_items Stored d) (lost d) (λ (q : SetRow). 0)) (quiet_cell d) xs ls start (totals c.sweep_cell.new.items c.saturating_sub-left.result 0) rest) (sym rows)
+          subst (λ ls. Visited (swept d) (with_row (swept_items Stored d) (lost d) (λ (q : SetRow). 0)) (quiet_cell d) xs ls start
+          (totals c.sweep_cell.new.items c.saturating_sub-left.result 0) rest) (sym rows)
           (subst (λ s. Visited (swept d) (with_row (swept_items Stored d) (lost d) (λ (q : SetRow). 0)) (quiet_cell d) xs new start s rest) (sym total)
-          (turn (swept d) (with_row (swept_items Stored d) (lost d) (λ (q : SetRow). 0)) (quiet_cell d) xs ys start before p rest none (each_above p rest c.in-Some.ensures.all_above) fits.0 v));
+          (turn (swept d) (with_row (swept_items Stored d) (lost d) (λ (q : SetRow). 0)) (quiet_cell d) xs ys start before p rest none
+          (each_above p rest c.in-Some.ensures.all_above) fits.0 v));
     }
 
-ended : (c : goal.In_default) → (c.loop-place.tables.present.cells ≡ map (swept c.args.doomed.now) c.args.tables.now.present.cells) × (totals c.loop-place.items c.loop-place.left 0 ≡ totals (with_items c.args.items.now (flat_map (swept_items Stored c.args.doomed.now) c.args.tables.now.present.cells)) (c.args.values - sum_by (lost c.args.doomed.now) c.args.tables.now.present.cells) (0 - sum_by (λ (q : SetRow). 0) c.args.tables.now.present.cells))
+ended : (c : goal.In_default) →
+    (c.loop-place.tables.present.cells ≡ map (swept c.args.doomed.now) c.args.tables.now.present.cells) × (totals c.loop-place.items c.loop-place.left
+    0 ≡ totals (with_items c.args.items.now (flat_map (swept_items Stored c.args.doomed.now) c.args.tables.now.present.cells))
+    (c.args.values - sum_by (lost c.args.doomed.now) c.args.tables.now.present.cells) (0 - sum_by (λ (q : SetRow). 0) c.args.tables.now.present.cells))
 ended c =
     let d = c.args.doomed.now in
     let xs = c.args.tables.now.present.cells in
     let i = c.loop-place.invariant in
     let nil = none_waits c.loop-place.places.keys (λ lt. let some = c.in_default.ensures.variant.1 lt in cc) in
     let start = totals c.args.items.now c.args.values 0 in
-    let v = subst (Visited (swept d) (with_row (swept_items Stored d) (lost d) (λ (q : SetRow). 0)) (quiet_cell d) xs c.loop-place.tables.present.cells start (totals c.loop-place.items c.loop-place.left 0)) nil i.visited in
-    let e = ends (swept d) (with_row (swept_items Stored d) (lost d) (λ (q : SetRow). 0)) (quiet_cell d) xs c.loop-place.tables.present.cells start (totals c.loop-place.items c.loop-place.left 0) none v in
+    let v = subst (Visited (swept d) (with_row (swept_items Stored d) (lost d) (λ (q : SetRow). 0)) (quiet_cell d) xs c.loop-place.tables.present.cells start
+    (totals c.loop-place.items c.loop-place.left 0)) nil i.visited in
+    let e = ends (swept d) (with_row (swept_items Stored d) (lost d) (λ (q : SetRow). 0)) (quiet_cell d) xs c.loop-place.tables.present.cells start
+    (totals c.loop-place.items c.loop-place.left 0) none v in
     (e.0, e.1 ∙ all_told (swept_items Stored d) (lost d) (λ (q : SetRow). 0) xs c.args.items.now c.args.values 0)
 
 pub returns-clause-present : goal.returns-clause-present

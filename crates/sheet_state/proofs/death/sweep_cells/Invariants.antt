@@ -12,7 +12,8 @@ invariant-loop-place l = record {
   earlier : l.tables.earlier ≡ l.fn.tables.earlier;
   long : length l.tables.present.cells ≡ length l.fn.tables.present.cells;
   fits : Fits (length l.fn.tables.present.cells) l.places.keys;
-  visited : Visited (swept l.doomed) (with_row (swept_items Stored l.doomed) (lost l.doomed) (λ q. 0)) (quiet_cell l.doomed) l.fn.tables.present.cells l.tables.present.cells (totals l.fn.items l.fn.values 0) (totals l.items l.left 0) l.places.keys;
+  visited : Visited (swept l.doomed) (with_row (swept_items Stored l.doomed) (lost l.doomed) (λ q. 0)) (quiet_cell l.doomed) l.fn.tables.present.cells
+      l.tables.present.cells (totals l.fn.items l.fn.values 0) (totals l.items l.left 0) l.places.keys;
 }
 
 abbrev pub decreases-loop-place : goal.decreases-loop-place

@@ -12,7 +12,8 @@ invariant-loop-place l = record {
   earlier : l.tables.earlier ≡ l.fn.tables.earlier;
   long : length l.tables.present.extents ≡ length l.fn.tables.present.extents;
   fits : Fits (length l.fn.tables.present.extents) l.places.keys;
-  visited : Visited (swept l.doomed) (with_row (swept_items Extent l.doomed) (λ q. 0) (λ q. 0)) (quiet_extent l.doomed) l.fn.tables.present.extents l.tables.present.extents (totals l.fn.items 0 0) (totals l.items 0 0) l.places.keys;
+  visited : Visited (swept l.doomed) (with_row (swept_items Extent l.doomed) (λ q. 0) (λ q. 0)) (quiet_extent l.doomed) l.fn.tables.present.extents
+      l.tables.present.extents (totals l.fn.items 0 0) (totals l.items 0 0) l.places.keys;
 }
 
 abbrev pub decreases-loop-place : goal.decreases-loop-place

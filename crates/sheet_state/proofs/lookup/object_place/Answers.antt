@@ -14,16 +14,19 @@ pub returns-then-rows-place : goal.returns-then-rows-place
 returns-then-rows-place c =
     let ord = λ (r : ObjectRow). nat_cmp r.number c.args.object in
     let at = c.in-Ok.ensures.position (λ (r : ObjectRow). r.number) (answers_always _ _ _ (λ f a r g called. search rules)) in
-    sym (sym (object_tests c.args.object c.args.rows.now) ∙ found object_cmp ord (λ (r : ObjectRow). r.live) (objects_follow c.args.object) c.args.rows.now c.in-Ok.place none c.requires c.in-Ok.ensures.bound (at none) ∙ ap (λ b. if b then Some c.in-Ok.place else None) (c.if-rows-place.true))
+    sym (sym (object_tests c.args.object c.args.rows.now) ∙ found object_cmp ord (λ (r : ObjectRow). r.live) (objects_follow c.args.object) c.args.rows.now
+    c.in-Ok.place none c.requires c.in-Ok.ensures.bound (at none) ∙ ap (λ b. if b then Some c.in-Ok.place else None) (c.if-rows-place.true))
 
 pub returns-else-rows-place : goal.returns-else-rows-place
 returns-else-rows-place c =
     let ord = λ (r : ObjectRow). nat_cmp r.number c.args.object in
     let at = c.in-Ok.ensures.position (λ (r : ObjectRow). r.number) (answers_always _ _ _ (λ f a r g called. search rules)) in
-    sym (sym (object_tests c.args.object c.args.rows.now) ∙ found object_cmp ord (λ (r : ObjectRow). r.live) (objects_follow c.args.object) c.args.rows.now c.in-Ok.place none c.requires c.in-Ok.ensures.bound (at none) ∙ ap (λ b. if b then Some c.in-Ok.place else None) (c.if-rows-place.false))
+    sym (sym (object_tests c.args.object c.args.rows.now) ∙ found object_cmp ord (λ (r : ObjectRow). r.live) (objects_follow c.args.object) c.args.rows.now
+    c.in-Ok.place none c.requires c.in-Ok.ensures.bound (at none) ∙ ap (λ b. if b then Some c.in-Ok.place else None) (c.if-rows-place.false))
 
 pub returns-in-Err : goal.returns-in-Err
 returns-in-Err c =
     let ord = λ (r : ObjectRow). nat_cmp r.number c.args.object in
     let at = c.in-Err.ensures.position (λ (r : ObjectRow). r.number) (answers_always _ _ _ (λ f a r g called. search rules)) in
-    sym (sym (object_tests c.args.object c.args.rows.now) ∙ missing object_cmp ord (λ (r : ObjectRow). r.live) (objects_follow c.args.object) c.args.rows.now c.in-Err.field-0 c.requires at)
+    sym (sym (object_tests c.args.object c.args.rows.now) ∙ missing object_cmp ord (λ (r : ObjectRow). r.live) (objects_follow c.args.object) c.args.rows.now
+    c.in-Err.field-0 c.requires at)

@@ -15,16 +15,25 @@ pub returns-then-rows-place : goal.returns-then-rows-place
 returns-then-rows-place c =
     let ord = λ (r : SetRow). ordering_then (nat_cmp r.object c.args.object) (nat_cmp r.column c.args.column) in
     let at = c.in-Ok.ensures.position (λ (r : SetRow). (r.object, r.column)) (answers_always _ _ _ (λ f a r g called. search rules)) in
-    sym (sym (set_tests c.args.object c.args.column c.args.rows.now) ∙ found row_cmp ord (λ (r : SetRow). r.live) (rows_follow c.args.object c.args.column) c.args.rows.now c.in-Ok.place none c.requires c.in-Ok.ensures.bound (at none) ∙ ap (λ b. if b then Some c.in-Ok.place else None) (ap (λ (r : SetRow). r.live) (get_or_default c.args.rows.now c.in-Ok.place none c.index-rows-place.result c.in-Ok.ensures.bound) ∙ c.if-rows-place.true))
+    sym (sym (set_tests c.args.object c.args.column c.args.rows.now) ∙ found row_cmp ord (λ (r : SetRow). r.live) (rows_follow c.args.object c.args.column)
+    c.args.rows.now c.in-Ok.place none c.requires c.in-Ok.ensures.bound (at none)
+    ∙ ap (λ b. if b then Some c.in-Ok.place else None)
+    (ap (λ (r : SetRow). r.live) (get_or_default c.args.rows.now c.in-Ok.place none c.index-rows-place.result c.in-Ok.ensures.bound)
+    ∙ c.if-rows-place.true))
 
 pub returns-else-rows-place : goal.returns-else-rows-place
 returns-else-rows-place c =
     let ord = λ (r : SetRow). ordering_then (nat_cmp r.object c.args.object) (nat_cmp r.column c.args.column) in
     let at = c.in-Ok.ensures.position (λ (r : SetRow). (r.object, r.column)) (answers_always _ _ _ (λ f a r g called. search rules)) in
-    sym (sym (set_tests c.args.object c.args.column c.args.rows.now) ∙ found row_cmp ord (λ (r : SetRow). r.live) (rows_follow c.args.object c.args.column) c.args.rows.now c.in-Ok.place none c.requires c.in-Ok.ensures.bound (at none) ∙ ap (λ b. if b then Some c.in-Ok.place else None) (ap (λ (r : SetRow). r.live) (get_or_default c.args.rows.now c.in-Ok.place none c.index-rows-place.result c.in-Ok.ensures.bound) ∙ c.if-rows-place.false))
+    sym (sym (set_tests c.args.object c.args.column c.args.rows.now) ∙ found row_cmp ord (λ (r : SetRow). r.live) (rows_follow c.args.object c.args.column)
+    c.args.rows.now c.in-Ok.place none c.requires c.in-Ok.ensures.bound (at none)
+    ∙ ap (λ b. if b then Some c.in-Ok.place else None)
+    (ap (λ (r : SetRow). r.live) (get_or_default c.args.rows.now c.in-Ok.place none c.index-rows-place.result c.in-Ok.ensures.bound)
+    ∙ c.if-rows-place.false))
 
 pub returns-in-Err : goal.returns-in-Err
 returns-in-Err c =
     let ord = λ (r : SetRow). ordering_then (nat_cmp r.object c.args.object) (nat_cmp r.column c.args.column) in
     let at = c.in-Err.ensures.position (λ (r : SetRow). (r.object, r.column)) (answers_always _ _ _ (λ f a r g called. search rules)) in
-    sym (sym (set_tests c.args.object c.args.column c.args.rows.now) ∙ missing row_cmp ord (λ (r : SetRow). r.live) (rows_follow c.args.object c.args.column) c.args.rows.now c.in-Err.field-0 c.requires at)
+    sym (sym (set_tests c.args.object c.args.column c.args.rows.now) ∙ missing row_cmp ord (λ (r : SetRow). r.live) (rows_follow c.args.object c.args.column)
+    c.args.rows.now c.in-Err.field-0 c.requires at)

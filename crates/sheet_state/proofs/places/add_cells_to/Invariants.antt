@@ -8,4 +8,6 @@ use Rattle.sheet_state.proofs.Adding.{Among}
 use Rattle.sheet_state.proofs.places.add_cells_to.Given as goal
 
 abbrev pub invariant-loop-reference : goal.invariant-loop-reference
-invariant-loop-reference l = Adds (Among reference_cmp (λ (r : Reference) k. position (is_set r.object r.column) l.rows ≡ Some k) (take l.reference-index l.reference-items)) (length l.rows) l.fn.places.keys l.places.keys
+invariant-loop-reference l =
+    Adds (Among reference_cmp (λ (r : Reference) k. position (is_set r.object r.column) l.rows ≡ Some k) (take l.reference-index l.reference-items))
+    (length l.rows) l.fn.places.keys l.places.keys

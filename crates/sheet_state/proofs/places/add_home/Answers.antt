@@ -15,7 +15,8 @@ abbrev none : ObjectRow
 none = record { number = 0; column = 0; parent = None; live = false }
 
 -- the object of a row that was found
-there : (rows : List ObjectRow) (o place : ℕ) (x : LiveObject) → Some place ≡ position (is_object o) rows → object_at (objects_in rows) o ≡ Some x → object_of (get_or rows place none) ≡ x
+there : (rows : List ObjectRow) (o place : ℕ) (x : LiveObject) → Some place ≡ position (is_object o) rows → object_at (objects_in rows) o ≡ Some x →
+    object_of (get_or rows place none) ≡ x
 there rows o place x is at =
     let f = first_at (is_object o) rows place (sym is) in
     let live = (both_true f.0.live (f.0.number == o) (first_passes (is_object o) rows place f.0 f.1)).0 in
@@ -41,11 +42,16 @@ returns-in-Some-parent c =
     let extents = c.args.extents.now in
     let row = get_or rows c.in-Some.place none in
     let parent = c.in-Some-parent.parent in
-    on_ok _ _ (Adds (λ k. position (is_set parent row.column) extents ≡ Some k) (length extents) c.args.places.now.keys c.add_set.new.places.keys) (Adds (IsHomeOf rows extents o) (length extents) c.args.places.now.keys c.add_set.new.places.keys) c.add_set.result
-    (fewer (λ k. position (is_set parent row.column) extents ≡ Some k) (IsHomeOf rows extents o) (length extents) c.args.places.now.keys c.add_set.new.places.keys (λ k h. home rows extents o c.in-Some.place parent k h.0 h.1 (there rows o c.in-Some.place h.1 c.in-Some.ensures h.2) c.in-Some-parent.is h.3 h.4))
+    on_ok _ _ (Adds (λ k. position (is_set parent row.column) extents ≡ Some k) (length extents) c.args.places.now.keys c.add_set.new.places.keys)
+    (Adds (IsHomeOf rows extents o) (length extents) c.args.places.now.keys c.add_set.new.places.keys) c.add_set.result
+    (fewer (λ k. position (is_set parent row.column) extents ≡ Some k) (IsHomeOf rows extents o) (length extents) c.args.places.now.keys
+    c.add_set.new.places.keys (λ k h. home rows extents o c.in-Some.place parent k h.0 h.1 (there rows o c.in-Some.place h.1 c.in-Some.ensures h.2)
+    c.in-Some-parent.is h.3 h.4))
     c.add_set.ensures
   where
-    home : (rows : List ObjectRow) (extents : List SetRow) (o place parent k p : ℕ) (x : LiveObject) → object_of (get_or rows place none) ≡ x → (get_or rows place none).parent ≡ Some parent → x.parent ≡ Some p → position (is_set p x.column) extents ≡ Some k → position (is_set parent (get_or rows place none).column) extents ≡ Some k
+    home : (rows : List ObjectRow) (extents : List SetRow) (o place parent k p : ℕ) (x : LiveObject) → object_of (get_or rows place none) ≡ x →
+        (get_or rows place none).parent ≡ Some parent → x.parent ≡ Some p → position (is_set p x.column) extents ≡ Some k →
+        position (is_set parent (get_or rows place none).column) extents ≡ Some k
     home rows extents o place parent k p x is up e at =
         let same : Some parent ≡ Some p = sym up ∙ ap (λ (y : LiveObject). y.parent) is ∙ e in
         let number : parent ≡ p = cc in
@@ -55,7 +61,8 @@ pub returns-in-None : goal.returns-in-None
 returns-in-None c =
     let o = c.args.object in
     let rows = c.args.objects.now in
-    none_added (IsHomeOf rows c.args.extents.now o) (length c.args.extents.now) c.args.places.now.keys (λ k h. alone h.0 (ap (λ (y : LiveObject). y.parent) (sym (there rows o c.in-Some.place h.1 c.in-Some.ensures h.2)) ∙ c.in-None.is) h.3)
+    none_added (IsHomeOf rows c.args.extents.now o) (length c.args.extents.now) c.args.places.now.keys
+    (λ k h. alone h.0 (ap (λ (y : LiveObject). y.parent) (sym (there rows o c.in-Some.place h.1 c.in-Some.ensures h.2)) ∙ c.in-None.is) h.3)
   where
     alone : (p : ℕ) {q : Option ℕ} → q ≡ None → q ≡ Some p → ⊥
     alone p e f = let clash : None ≡ Some p = sym e ∙ f in cc

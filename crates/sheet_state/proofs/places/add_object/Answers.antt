@@ -10,4 +10,5 @@ returns-in_ok-insert c =
     let rows = c.args.rows.now in
     let place = c.in-Some.place in
     let f = first_at (is_object c.args.object) rows place (sym c.in-Some.ensures) in
-    one_added (IsRowOf rows c.args.object) (length rows) place c.args.places.now.keys c.insert.new.self.keys c.in_ok-insert.ensures.updates.0 (first_within (is_object c.args.object) rows place f.0 f.1) (λ k w. let e : Some place ≡ Some k = c.in-Some.ensures ∙ w in cc)
+    one_added (IsRowOf rows c.args.object) (length rows) place c.args.places.now.keys c.insert.new.self.keys c.in_ok-insert.ensures.updates.0
+    (first_within (is_object c.args.object) rows place f.0 f.1) (λ k w. let e : Some place ≡ Some k = c.in-Some.ensures ∙ w in cc)

@@ -22,7 +22,8 @@ loop-value-preserved c =
       | in-Object+in_ok-add_cells_to b ↦
           subst (λ s. Adds (Among value_cmp (OfObject w) (take (i + 1) vs)) (length rows) c.args.places.now.keys s.keys) (sym b.places-is)
           (value_more w (length rows) c.args.places.now.keys old b.add_cells_to.new.places.keys vs i v c.loop-value-test.true c.loop-value.invariant
-          (for_object w (length rows) b.in-Object.number old b.add_cells_to.new.places.keys (get_or vs i v) (sym c.value-item.is ∙ b.in-Object.is) b.in_ok-add_cells_to.ensures))
+          (for_object w (length rows) b.in-Object.number old b.add_cells_to.new.places.keys (get_or vs i v) (sym c.value-item.is ∙ b.in-Object.is)
+          b.in_ok-add_cells_to.ensures))
       | in_default b ↦
           subst (λ s. Adds (Among value_cmp (OfObject w) (take (i + 1) vs)) (length rows) c.args.places.now.keys s.keys) (sym b.places-is)
           (value_more w (length rows) c.args.places.now.keys old old vs i v c.loop-value-test.true c.loop-value.invariant
@@ -36,10 +37,13 @@ returns c =
     let w = RefersTo rows c.args.references.now in
     for_any w (length rows) c.args.places.now.keys c.loop-value.places.keys c.args.doomed.now
     (subst (λ l. Adds (Among value_cmp (OfObject w) l) (length rows) c.args.places.now.keys c.loop-value.places.keys) c.as_slice-value-items.ensures.values
-    (each_all value_cmp (OfObject w) (length rows) c.args.places.now.keys c.loop-value.places.keys vs c.loop-value.value-index (omega (arith, c.loop-value-test.false)) c.loop-value.invariant))
+    (each_all value_cmp (OfObject w) (length rows) c.args.places.now.keys c.loop-value.places.keys vs c.loop-value.value-index
+    (omega (arith, c.loop-value-test.false)) c.loop-value.invariant))
 
 pub loop-value-init : goal.loop-value-init
-loop-value-init c = each_none value_cmp (OfObject (RefersTo c.args.rows.now c.args.references.now)) (length c.args.rows.now) c.args.places.now.keys c.as_slice-value-items.result.now
+loop-value-init c =
+    each_none value_cmp (OfObject (RefersTo c.args.rows.now c.args.references.now)) (length c.args.rows.now) c.args.places.now.keys
+    c.as_slice-value-items.result.now
 
 pub add_cells_to-requires-clause-small : goal.add_cells_to-requires-clause-small
 add_cells_to-requires-clause-small c =
@@ -50,4 +54,5 @@ add_cells_to-requires-clause-small c =
     let is : get_or vs i v ≡ Object m = sym c.value-item.is ∙ c.in-Object.is in
     c.requires.small m
     (ap (contains (Object m)) (sym c.as_slice-value-items.ensures.values)
-    ∙ list_any_at (λ y. is_eq (value_cmp (Object m) y)) vs i v c.loop-value-test.true (ap (λ y. is_eq (value_cmp (Object m) y)) is ∙ ties m m ∙ eq-eqb m m refl))
+    ∙ list_any_at (λ y. is_eq (value_cmp (Object m) y)) vs i v c.loop-value-test.true (ap (λ y. is_eq (value_cmp (Object m) y)) is ∙ ties m m
+    ∙ eq-eqb m m refl))

@@ -5,4 +5,5 @@ use Rattle.sheet_state.proofs.Adding.{Among, OfObject}
 use Rattle.sheet_state.proofs.places.add_referring.Given as goal
 
 abbrev pub invariant-loop-value : goal.invariant-loop-value
-invariant-loop-value l = Adds (Among value_cmp (OfObject (RefersTo l.rows l.references)) (take l.value-index l.value-items)) (length l.rows) l.fn.places.keys l.places.keys
+invariant-loop-value l =
+    Adds (Among value_cmp (OfObject (RefersTo l.rows l.references)) (take l.value-index l.value-items)) (length l.rows) l.fn.places.keys l.places.keys

@@ -11,4 +11,5 @@ returns-in_ok-insert c =
     let place = c.in-Some.place in
     let p = is_set c.args.object c.args.column in
     let f = first_at p rows place (sym c.in-Some.ensures) in
-    one_added (λ k. position p rows ≡ Some k) (length rows) place c.args.places.now.keys c.insert.new.self.keys c.in_ok-insert.ensures.updates.0 (first_within p rows place f.0 f.1) (λ k w. let e : Some place ≡ Some k = c.in-Some.ensures ∙ w in cc)
+    one_added (λ k. position p rows ≡ Some k) (length rows) place c.args.places.now.keys c.insert.new.self.keys c.in_ok-insert.ensures.updates.0
+    (first_within p rows place f.0 f.1) (λ k w. let e : Some place ≡ Some k = c.in-Some.ensures ∙ w in cc)

@@ -18,7 +18,8 @@ loop-value-preserved c =
       | in-Object+in_ok-add_own b ↦
           subst (λ s. Adds (Among value_cmp (OfObject w) (take (i + 1) vs)) (length rows) [] s.keys) (sym b.places-is)
           (value_more w (length rows) [] old b.add_own.new.places.keys vs i v c.loop-value-test.true c.loop-value.invariant
-          (for_object w (length rows) b.in-Object.number old b.add_own.new.places.keys (get_or vs i v) (sym c.value-item.is ∙ b.in-Object.is) b.in_ok-add_own.ensures))
+          (for_object w (length rows) b.in-Object.number old b.add_own.new.places.keys (get_or vs i v) (sym c.value-item.is ∙ b.in-Object.is)
+          b.in_ok-add_own.ensures))
       | in_default b ↦
           subst (λ s. Adds (Among value_cmp (OfObject w) (take (i + 1) vs)) (length rows) [] s.keys) (sym b.places-is)
           (value_more w (length rows) [] old old vs i v c.loop-value-test.true c.loop-value.invariant
@@ -32,9 +33,11 @@ returns c =
     let w = IsOwnRow rows in
     for_any w (length rows) [] c.loop-value.places.keys c.args.doomed.now
     (subst (λ l. Adds (Among value_cmp (OfObject w) l) (length rows) [] c.loop-value.places.keys) c.as_slice-value-items.ensures.values
-    (each_all value_cmp (OfObject w) (length rows) [] c.loop-value.places.keys vs c.loop-value.value-index (omega (arith, c.loop-value-test.false)) c.loop-value.invariant))
+    (each_all value_cmp (OfObject w) (length rows) [] c.loop-value.places.keys vs c.loop-value.value-index (omega (arith, c.loop-value-test.false))
+    c.loop-value.invariant))
 
 pub loop-value-init : goal.loop-value-init
 loop-value-init c =
     let w = IsOwnRow c.args.rows.now in
-    subst (Adds (Among value_cmp (OfObject w) []) (length c.args.rows.now) []) (sym (nil_from_length c.new-places.result.keys c.new-places.ensures.len)) (each_none value_cmp (OfObject w) (length c.args.rows.now) [] c.as_slice-value-items.result.now)
+    subst (Adds (Among value_cmp (OfObject w) []) (length c.args.rows.now) []) (sym (nil_from_length c.new-places.result.keys c.new-places.ensures.len))
+    (each_none value_cmp (OfObject w) (length c.args.rows.now) [] c.as_slice-value-items.result.now)

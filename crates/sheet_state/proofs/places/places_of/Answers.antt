@@ -14,7 +14,8 @@ own_rows-requires-2 c = subst NeverFalls (sym c.extents.ensures) (never_falls c.
 
 pub add_referring-requires-clause-small : goal.add_referring-requires-clause-small
 add_referring-requires-clause-small c =
-    are_small c.requires.kept.0 c.args.tables.now.present c.requires.sound c.requires.kept.1 c.args.object c.requires.not_root c.requires.live c.args.doomed.now c.requires.family
+    are_small c.requires.kept.0 c.args.tables.now.present c.requires.sound c.requires.kept.1 c.args.object c.requires.not_root c.requires.live c.args.doomed.now
+    c.requires.family
 
 pub returns-clause-objects : goal.returns-clause-objects
 returns-clause-objects c =
@@ -27,9 +28,11 @@ returns-clause-cells c =
     let t = c.args.tables.now.present in
     let d = c.args.doomed.now in
     let refs = c.args.references.now in
-    covers_cells c.requires.kept.0 t c.requires.sound c.requires.kept.1 c.args.object c.requires.not_root c.requires.live d c.requires.family refs c.in_ok-cells.cells.keys c.add_referring.new.places.keys c.requires.listed
+    covers_cells c.requires.kept.0 t c.requires.sound c.requires.kept.1 c.args.object c.requires.not_root c.requires.live d c.requires.family refs
+    c.in_ok-cells.cells.keys c.add_referring.new.places.keys c.requires.listed
     (subst (λ rows. Adds (OfAny d (IsOwnRow rows)) (length rows) [] c.in_ok-cells.cells.keys) c.cells.ensures c.in_ok-cells.ensures)
-    (subst (λ rows. Adds (OfAny d (RefersTo rows refs)) (length rows) c.in_ok-cells.cells.keys c.add_referring.new.places.keys) c.cells-2.ensures c.in_ok-add_referring.ensures)
+    (subst (λ rows. Adds (OfAny d (RefersTo rows refs)) (length rows) c.in_ok-cells.cells.keys c.add_referring.new.places.keys) c.cells-2.ensures
+    c.in_ok-add_referring.ensures)
 
 pub returns-clause-extents : goal.returns-clause-extents
 returns-clause-extents c =

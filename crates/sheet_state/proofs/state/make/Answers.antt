@@ -28,4 +28,6 @@ returns-clause-present c =
     (c.in_ok-add_object.ensures.ok
     ∙ ap (λ u. with_objects u (u.objects ++ new_object_row n k p ∷ []))
     (c.in_ok-join_extent.ensures.ok ∙ ap (λ (r : SetRow). with_extents t (slice_set t.extents c.args.place (joined n r))) c.requires.row)))
-    ∙ ap (λ m. with_counters (with_rows (with_objects (with_extents t (slice_set t.extents c.args.place (row p k (insert value_cmp (Object m) (set_at t.extents c.args.place))))) (t.objects ++ new_object_row m k p ∷ [])) m scs cols) c.args.after) number
+    ∙ ap (λ m. with_counters
+    (with_rows (with_objects (with_extents t (slice_set t.extents c.args.place (row p k (insert value_cmp (Object m) (set_at t.extents c.args.place)))))
+    (t.objects ++ new_object_row m k p ∷ [])) m scs cols) c.args.after) number

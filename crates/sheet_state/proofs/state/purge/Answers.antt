@@ -13,5 +13,6 @@ keep_held-requires c = subst NeverFalls (sym c.cells.ensures) (never_falls c.arg
 
 pub returns-then-len-counters : goal.returns-then-len-counters
 returns-then-len-counters c =
-    subst (λ rs. IsListed rs c.args.tables.now.present) (sym (c.keep_held.ensures ∙ ap (λ (rows : List SetRow). filter (is_held rows) c.args.references.now) c.cells.ensures))
+    subst (λ rs. IsListed rs c.args.tables.now.present)
+    (sym (c.keep_held.ensures ∙ ap (λ (rows : List SetRow). filter (is_held rows) c.args.references.now) c.cells.ensures))
     (listed_held c.args.references.now c.args.tables.now.present c.requires.listed)

@@ -12,4 +12,6 @@ returns-in-Some c =
     ap (λ (r : SetRow). r.set) (first_read p rows c.in-Some.place f.0 _ f.1) ∙ sym (set_found c.args.object c.args.column rows c.in-Some.place f.0 f.1)
 
 pub returns-in-None : goal.returns-in-None
-returns-in-None c = c.requires.nothing ∙ sym (set_missing c.args.object c.args.column c.args.rows.now (none_at (is_set c.args.object c.args.column) c.args.rows.now (sym c.in-None.ensures)))
+returns-in-None c =
+    c.requires.nothing
+    ∙ sym (set_missing c.args.object c.args.column c.args.rows.now (none_at (is_set c.args.object c.args.column) c.args.rows.now (sym c.in-None.ensures)))

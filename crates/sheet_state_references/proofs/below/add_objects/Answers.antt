@@ -30,6 +30,7 @@ loop-value-preserved c =
           let none : (m : ℕ) → get_or vs i v ≡ Object m → ⊥ = λ m e. w.in_default.not-Object m (c.value-item.is ∙ e) in
           ap (λ s. has n s.keys) w.waiting-is
           ∙ c.loop-value.invariant n
-          ∙ same_again (has n c.args.waiting.now.keys) (contains (Object n) (take i vs)) (is_eq (value_cmp (Object n) (get_or vs i v))) (no_object n (get_or vs i v) none)
+          ∙ same_again (has n c.args.waiting.now.keys) (contains (Object n) (take i vs)) (is_eq (value_cmp (Object n) (get_or vs i v)))
+          (no_object n (get_or vs i v) none)
           ∙ ap (λ b. has n c.args.waiting.now.keys || b) (sym (list_any_more (λ y. is_eq (value_cmp (Object n) y)) vs i v c.loop-value-test.true))
     ]

@@ -8,11 +8,14 @@ loop-number-smaller c =
     let fits : m < 2 ^ 64 = c.add_children.ensures.fits in
     let removal : c.loop-number.waiting.keys ≡ m ∷ c.pop_first.new.self.keys = c.in-Some.ensures.removal in
     subst (λ ks. remaining c.add_children.new.waiting.keys < remaining ks) (sym removal)
-    (falls c.args.extents.now m c.pop_first.new.self.keys c.add_children.new.waiting.keys fits c.requires.descends c.in-Some.ensures.all_above c.in_ok-add_children.ensures.added)
+    (falls c.args.extents.now m c.pop_first.new.self.keys c.add_children.new.waiting.keys fits c.requires.descends c.in-Some.ensures.all_above
+    c.in_ok-add_children.ensures.added)
 
 pub loop-number-preserved : goal.loop-number-preserved
 loop-number-preserved c =
     let m = c.in-Some.number in
     let removal : c.loop-number.waiting.keys ≡ m ∷ c.pop_first.new.self.keys = c.in-Some.ensures.removal in
     subst (Searched c.args.extents.now c.args.object c.add_children.new.waiting.keys) (sym c.in_ok-insert-2.ensures.set)
-    (turn c.args.extents.now c.args.object m c.pop_first.new.self.keys c.loop-number.family (subst (λ ks. Searched c.args.extents.now c.args.object ks c.loop-number.family) removal c.loop-number.invariant) c.add_children.new.waiting.keys c.in_ok-add_children.ensures.added)
+    (turn c.args.extents.now c.args.object m c.pop_first.new.self.keys c.loop-number.family
+    (subst (λ ks. Searched c.args.extents.now c.args.object ks c.loop-number.family) removal c.loop-number.invariant) c.add_children.new.waiting.keys
+    c.in_ok-add_children.ensures.added)

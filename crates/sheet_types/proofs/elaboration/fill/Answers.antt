@@ -16,7 +16,8 @@ loop-number-preserved c =
     settled_turn c.args.kinds.now c.args.columns.now old c.if-matches.columns k x c.loop-number.invariant c.get.ensures
     (elim c.if-matches.branch [
       | then-matches w ↦ elim c.match-matches.branch [
-        | in-Formula v ↦ given c.args.kinds.now old c.if-matches.columns k x v.in-Formula.kind w.kind_at-kind.result v.in-Formula.is w.kind_at-kind.ensures (w.columns-is ∙ w.set.ensures)
+        | in-Formula v ↦ given c.args.kinds.now old c.if-matches.columns k x v.in-Formula.kind w.kind_at-kind.result v.in-Formula.is w.kind_at-kind.ensures
+            (w.columns-is ∙ w.set.ensures)
         | in_default v ↦ let no : true ≡ false = sym w.if-matches.true ∙ v.matches-is in cc
       ]
       | else-matches w ↦ elim c.match-matches.branch [
@@ -27,4 +28,5 @@ loop-number-preserved c =
 
 pub returns-clause-filled : goal.returns-clause-filled
 returns-clause-filled c =
-    c.loop-number.invariant ∙ all_settled c.args.kinds.now 0 c.loop-number.number c.args.columns.now (omega (arith, c.loop-number-test.false, c.count-number-end.ensures.count))
+    c.loop-number.invariant
+    ∙ all_settled c.args.kinds.now 0 c.loop-number.number c.args.columns.now (omega (arith, c.loop-number-test.false, c.count-number-end.ensures.count))

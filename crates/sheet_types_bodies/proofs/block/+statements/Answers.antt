@@ -1,6 +1,8 @@
 use Rattle.std.proofs.Common.{Ok, [], length, refl, rules, subst, sym, take, ◌++◌, ◌∙◌, ◌∷◌, ◌≡◌}
-use Rattle.sheet_types_bodies.proofs.Blocks.{all_stay, begins_then, same_stay, statement-For, statement-If, statement-IfElse, statement_goes_on, statement_stops, statements_end}
-use Rattle.sheet_types_bodies.proofs.Made.{either_refused, either_told, for_refused, for_told, gone, guarded_refused, guarded_told, if_refused, if_told, with_same}
+use Rattle.sheet_types_bodies.proofs.Blocks.{all_stay, begins_then, same_stay, statement-For, statement-If, statement-IfElse, statement_goes_on}
+use Rattle.sheet_types_bodies.proofs.Blocks.{statement_stops, statements_end}
+use Rattle.sheet_types_bodies.proofs.Made.{either_refused, either_told, for_refused, for_told, gone, guarded_refused, guarded_told, if_refused, if_told}
+use Rattle.sheet_types_bodies.proofs.Made.{with_same}
 use Rattle.sheet_types_bodies.proofs.Steps.{passed_on, seen_plainly}
 use Rattle.sheet_types_bodies.specs.Calls.{here, made_block, made_guarded, made_with}
 use Rattle.sheet_types_bodies.specs.Statements.{formula_of, guarded_block, in_block}
@@ -50,7 +52,8 @@ guarded-returns-in_err-condition-clause-told t c =
     let s = c.args.sheet.now in
     passed_on c.in_err-condition.field-0.0 (formula_of kind.Truth c.args.condition.now (here s c.as_slice.result.now)) _ made_guarded c.from_residual.result
     c.from_residual.ensures.1 c.in_err-condition.ensures
-    (λ h. guarded_refused s c.as_slice.result.now c.args.variables.now.items c.args.condition.now c.args.body.now c.args.number c.in_err-condition.field-0.0 c.as_slice.ensures.value h)
+    (λ h. guarded_refused s c.as_slice.result.now c.args.variables.now.items c.args.condition.now c.args.body.now c.args.number c.in_err-condition.field-0.0
+    c.as_slice.ensures.value h)
 
 pub guarded-returns-clause-told : goal.guarded-returns-clause-told
 guarded-returns-clause-told t c =
@@ -58,7 +61,8 @@ guarded-returns-clause-told t c =
     let e = c.args.condition.now in
     let is : formula_of kind.Truth e (here s c.args.variables.now.items) ≡ Ok c.in_ok-condition.condition =
     subst (λ us. formula_of kind.Truth e (here s us) ≡ Ok c.in_ok-condition.condition) c.as_slice.ensures.value c.in_ok-condition.ensures in
-    rw c.with_block.ensures (guarded_told s c.args.variables.now.items e c.args.body.now c.args.number c.in_ok-condition.condition c.block-body.result is c.block-body.ensures.told)
+    rw c.with_block.ensures (guarded_told s c.args.variables.now.items e c.args.body.now c.args.number c.in_ok-condition.condition c.block-body.result is
+    c.block-body.ensures.told)
 
 pub guarded-returns-clause-same : goal.guarded-returns-clause-same
 guarded-returns-clause-same t c = rw c.with_block.ensures (with_same c.block-body.result _ _ _ (λ h. h) c.block-body.ensures.same)
@@ -85,7 +89,8 @@ if_else_statement-returns-in_err-both-clause-told t c =
     let told = guarded_block c.args.condition.now c.args.body.now (here s vs) c.in_ok-first.first in
     passed_on c.in_err-both.field-0.0 told _ (made_with s c.guarded.new.variables.items) c.from_residual-in_err-both.result
     c.from_residual-in_err-both.ensures.1 (seen_plainly c.in_err-both.field-0.0 made_guarded told c.in_err-both.ensures.told)
-    (either_refused s vs c.args.condition.now c.args.body.now c.args.number c.in_ok-first.first c.in_ok-first.ensures c.args.otherwise.now c.in_err-both.field-0.0)
+    (either_refused s vs c.args.condition.now c.args.body.now c.args.number c.in_ok-first.first c.in_ok-first.ensures c.args.otherwise.now
+    c.in_err-both.field-0.0)
 
 pub if_else_statement-returns-clause-told : goal.if_else_statement-returns-clause-told
 if_else_statement-returns-clause-told t c =
@@ -97,16 +102,19 @@ if_else_statement-returns-clause-told t c =
 pub if_else_statement-returns-clause-same : goal.if_else_statement-returns-clause-same
 if_else_statement-returns-clause-same t c =
     rw c.either.ensures
-    (with_same c.block-otherwise.result _ (c.block-otherwise.new.variables.items ≡ c.guarded.new.variables.items) (c.block-otherwise.new.variables.items ≡ c.args.variables.now.items)
+    (with_same c.block-otherwise.result _ (c.block-otherwise.new.variables.items ≡ c.guarded.new.variables.items)
+    (c.block-otherwise.new.variables.items ≡ c.args.variables.now.items)
     (λ h. h ∙ c.in_ok-both.ensures.same) c.block-otherwise.ensures.same)
 
 pub for_statement-returns-in_err-source-clause-told : goal.for_statement-returns-in_err-source-clause-told
 for_statement-returns-in_err-source-clause-told t c =
     let s = c.args.sheet.now in
     let vs = c.args.variables.now.items in
-    passed_on c.in_err-source.field-0.0 (typed c.args.source.now (here s c.as_slice.result.now)) _ (made_with s c.reserve.new.self.items) c.from_residual-in_err-source.result
+    passed_on c.in_err-source.field-0.0 (typed c.args.source.now (here s c.as_slice.result.now)) _ (made_with s c.reserve.new.self.items)
+    c.from_residual-in_err-source.result
     c.from_residual-in_err-source.ensures.1 c.in_err-source.ensures
-    (for_refused s vs c.args.source.now c.args.body.now c.args.number c.in_ok-first.first c.in_ok-first.ensures c.args.name.now c.as_slice.result.now c.in_err-source.field-0.0
+    (for_refused s vs c.args.source.now c.args.body.now c.args.number c.in_ok-first.first c.in_ok-first.ensures c.args.name.now c.as_slice.result.now
+    c.in_err-source.field-0.0
     (c.as_slice.ensures.value ∙ c.reserve.ensures.items))
 
 pub for_statement-returns-clause-told : goal.for_statement-returns-clause-told
@@ -135,8 +143,10 @@ for_statement-returns-clause-same t c =
     rw (c.push_reserved.ensures.items, c.reserve.ensures.items, c.in_ok-name.ensures) refl in
     let cut : c.truncate.new.self.items ≡ take (length vs) c.block-body.new.variables.items = search rules in
     rw c.repeated.ensures
-    (with_same c.block-body.result _ (c.block-body.new.variables.items ≡ c.push_reserved.new.self.items) (c.truncate.new.self.items ≡ c.args.variables.now.items)
-    (λ h. gone s vs c.args.source.now c.args.body.now c.args.number c.in_ok-first.first c.in_ok-first.ensures (record { name = c.args.name.now; kind = c.in_ok-source.source.kind }) mid after new one cut h)
+    (with_same c.block-body.result _ (c.block-body.new.variables.items ≡ c.push_reserved.new.self.items)
+    (c.truncate.new.self.items ≡ c.args.variables.now.items)
+    (λ h. gone s vs c.args.source.now c.args.body.now c.args.number c.in_ok-first.first c.in_ok-first.ensures
+    (record { name = c.args.name.now; kind = c.in_ok-source.source.kind }) mid after new one cut h)
     c.block-body.ensures.same)
 
 pub block-returns-in_err-block-clause-told : goal.block-returns-in_err-block-clause-told
@@ -149,7 +159,8 @@ pub in_order-loop-one-preserved : goal.in_order-loop-one-preserved
 in_order-loop-one-preserved t c =
     let vs = c.args.variables.now.items in
     let s = c.args.sheet.now in (
-      statement_goes_on c.args.written.now c.loop-one.one-index (here s c.loop-one.variables.items) c.loop-one.next (statements_in c.loop-one.statements) (in_block c.args.written.now (here s vs) c.args.number) c.loop-one.invariant.0
+      statement_goes_on c.args.written.now c.loop-one.one-index (here s c.loop-one.variables.items) c.loop-one.next (statements_in c.loop-one.statements)
+          (in_block c.args.written.now (here s vs) c.args.number) c.loop-one.invariant.0
           c.one-item.result (made_with s c.statement.new.variables.items c.in-Ok.step) _ c.loop-one-test.true c.one-item.is c.in-Ok.ensures.told (search rules),
       begins_then vs c.loop-one.variables.items c.statement.new.variables.items c.loop-one.invariant.1 c.in-Ok.ensures.front,
     )
@@ -158,11 +169,13 @@ pub in_order-returns-in-Err-clause-told : goal.in_order-returns-in-Err-clause-to
 in_order-returns-in-Err-clause-told t c =
     let vs = c.args.variables.now.items in
     let s = c.args.sheet.now in
-    statement_stops c.args.written.now c.loop-one.one-index (here s c.loop-one.variables.items) c.loop-one.next (statements_in c.loop-one.statements) (in_block c.args.written.now (here s vs) c.args.number) c.loop-one.invariant.0
+    statement_stops c.args.written.now c.loop-one.one-index (here s c.loop-one.variables.items) c.loop-one.next (statements_in c.loop-one.statements)
+    (in_block c.args.written.now (here s vs) c.args.number) c.loop-one.invariant.0
     (made_with s c.statement.new.variables.items) made_block c.one-item.result c.in-Err.refusal c.loop-one-test.true c.one-item.is c.in-Err.ensures.told
 
 pub in_order-returns-clause-told : goal.in_order-returns-clause-told
 in_order-returns-clause-told t c =
     let s = c.args.sheet.now in
-    statements_end c.args.written.now c.loop-one.one-index (here s c.loop-one.variables.items) c.loop-one.next (statements_in c.loop-one.statements) (in_block c.args.written.now (here s c.args.variables.now.items) c.args.number) c.loop-one.invariant.0
+    statements_end c.args.written.now c.loop-one.one-index (here s c.loop-one.variables.items) c.loop-one.next (statements_in c.loop-one.statements)
+    (in_block c.args.written.now (here s c.args.variables.now.items) c.args.number) c.loop-one.invariant.0
     c.loop-one-test.false

@@ -31,5 +31,6 @@ decreases-in_order l = 5 * goal.size-in_order l + 1
 
 abbrev pub invariant-in_order-loop-one : goal.invariant-in_order-loop-one
 invariant-in_order-loop-one l =
-    (in_block l.written (here l.sheet l.fn.variables.items) l.fn.number ≡ rest_of_block (statements_in l.statements) (drop l.one-index l.written) (here l.sheet l.variables.items) l.next)
+    (in_block l.written (here l.sheet l.fn.variables.items) l.fn.number ≡ rest_of_block (statements_in l.statements) (drop l.one-index l.written)
+    (here l.sheet l.variables.items) l.next)
     × Begins l.fn.variables.items l.variables.items

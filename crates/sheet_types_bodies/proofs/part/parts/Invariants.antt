@@ -7,5 +7,6 @@ use Rattle.sheet_types_bodies.proofs.part.parts.Given as goal
 
 abbrev pub invariant-loop-one : goal.invariant-loop-one
 invariant-loop-one l =
-    (parts l.written (here l.sheet l.fn.variables.items) 1 ≡ rest_in_turn (λ (p : Part). part_of p (here l.sheet l.fn.variables.items)) numbers_of l.list (drop l.one-index l.written) l.next)
+    (parts l.written (here l.sheet l.fn.variables.items) 1 ≡ rest_in_turn (λ (p : Part). part_of p (here l.sheet l.fn.variables.items)) numbers_of l.list
+    (drop l.one-index l.written) l.next)
     × (l.variables.items ≡ l.fn.variables.items)

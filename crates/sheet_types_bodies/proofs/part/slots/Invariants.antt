@@ -7,4 +7,5 @@ use Rattle.sheet_types_bodies.proofs.part.slots.Given as goal
 
 abbrev pub invariant-loop-show : goal.invariant-loop-show
 invariant-loop-show l =
-    slots l.written (here l.sheet l.variables) l.fn.number ≡ rest_in_turn (λ (s : Show). slot s (here l.sheet l.variables)) (λ s. 1) l.list (drop l.show-index l.written) l.next
+    slots l.written (here l.sheet l.variables) l.fn.number ≡ rest_in_turn (λ (s : Show). slot s (here l.sheet l.variables)) (λ s. 1) l.list
+    (drop l.show-index l.written) l.next

@@ -8,7 +8,8 @@ use Rattle.sheet_types_bodies.proofs.statement.check_statement.Goals as goal
 pub returns-in_err-condition : goal.returns-in_err-condition
 unfolding check_of
 returns-in_err-condition c =
-    passed_on c.in_err-condition.field-0.0 (formula_of Truth c.args.condition.now (here c.args.sheet.now c.args.variables.now)) _ (made_with c.args.sheet.now c.args.variables.now) c.from_residual-in_err-condition.result
+    passed_on c.in_err-condition.field-0.0 (formula_of Truth c.args.condition.now (here c.args.sheet.now c.args.variables.now)) _
+    (made_with c.args.sheet.now c.args.variables.now) c.from_residual-in_err-condition.result
     c.from_residual-in_err-condition.ensures.1 c.in_err-condition.ensures (λ h. rw h refl)
 
 pub returns : goal.returns

@@ -10,7 +10,8 @@ pub returns-in_err-value-clause-told : goal.returns-in_err-value-clause-told
 unfolding let_of
 returns-in_err-value-clause-told c =
     let same : c.as_slice.result.now ≡ c.args.variables.now.items = c.as_slice.ensures.value ∙ c.reserve.ensures.items in
-    passed_on c.in_err-value.field-0.0 (typed c.args.value.now (here c.args.sheet.now c.as_slice.result.now)) _ (made_with c.args.sheet.now c.reserve.new.self.items) c.from_residual-in_err-value.result
+    passed_on c.in_err-value.field-0.0 (typed c.args.value.now (here c.args.sheet.now c.as_slice.result.now)) _
+    (made_with c.args.sheet.now c.reserve.new.self.items) c.from_residual-in_err-value.result
     c.from_residual-in_err-value.ensures.1 c.in_err-value.ensures (λ h. rw (sym same, h) refl)
 
 pub returns-clause-told : goal.returns-clause-told

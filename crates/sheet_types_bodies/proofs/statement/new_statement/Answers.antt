@@ -10,7 +10,8 @@ pub returns-in_err-target-clause-told : goal.returns-in_err-target-clause-told
 unfolding new_of
 returns-in_err-target-clause-told c =
     let same : c.as_slice.result.now ≡ c.args.variables.now.items = c.as_slice.ensures.value ∙ c.reserve.ensures.items in
-    passed_on c.in_err-target.field-0.0 (objects_target c.args.target.now (here c.args.sheet.now c.as_slice.result.now)) _ (made_with c.args.sheet.now c.reserve.new.self.items) c.from_residual-in_err-target.result
+    passed_on c.in_err-target.field-0.0 (objects_target c.args.target.now (here c.args.sheet.now c.as_slice.result.now)) _
+    (made_with c.args.sheet.now c.reserve.new.self.items) c.from_residual-in_err-target.result
     c.from_residual-in_err-target.ensures.1 c.in_err-target.ensures (λ h. rw (sym same, h) refl)
 
 pub returns-clause-told : goal.returns-clause-told

@@ -7,7 +7,8 @@ use Rattle.sheet_types_bodies.proofs.target.state_target.Goals as goal
 pub returns-in_err-found : goal.returns-in_err-found
 unfolding state_target
 returns-in_err-found c =
-    passed_plainly c.in_err-found.field-0.0 (target c.args.written.now (here c.args.sheet.now c.args.variables.now)) _ c.from_residual.result c.from_residual.ensures.1 c.in_err-found.ensures.told (λ h. rw h refl)
+    passed_plainly c.in_err-found.field-0.0 (target c.args.written.now (here c.args.sheet.now c.args.variables.now)) _ c.from_residual.result
+    c.from_residual.ensures.1 c.in_err-found.ensures.told (λ h. rw h refl)
 
 pub returns : goal.returns
 unfolding state_target

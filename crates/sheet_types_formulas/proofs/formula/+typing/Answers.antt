@@ -2,7 +2,8 @@ use Rattle.std.proofs.Common.{sym, subst, ◌∙◌}
 use Rattle.sheet_types_formulas.specs.Answers.{Answers}
 use Rattle.sheet_types_formulas.specs.Names.{within}
 use Rattle.sheet_types_formulas.specs.Typing.{typed}
-use Rattle.sheet_types_formulas.proofs.Laws.{typed-Child, typed-Up, typed-Negate, typed-Not, typed-Binary, typed-If, typed-Set, typed-Call, typed-Gather, typed-GatherWhere, typed-Test}
+use Rattle.sheet_types_formulas.proofs.Laws.{typed-Child, typed-Up, typed-Negate, typed-Not, typed-Binary, typed-If, typed-Set, typed-Call, typed-Gather}
+use Rattle.sheet_types_formulas.proofs.Laws.{typed-GatherWhere, typed-Test}
 use Rattle.sheet_types_formulas.proofs.Recursion.{bound_within, part_typed, part_refused}
 use Rattle.sheet_types_formulas.proofs.formula.+typing.Goals as goal
 
@@ -34,7 +35,9 @@ pub typed-returns-in-Gather : goal.typed-returns-in-Gather
 typed-returns-in-Gather t c = rw (c.in-Gather.is, typed-Gather, sym c.get-in-Gather.ensures, sym c.get-in-Gather-2.ensures) c.typed_gathering.ensures
 
 pub typed-returns-in-GatherWhere : goal.typed-returns-in-GatherWhere
-typed-returns-in-GatherWhere t c = rw (c.in-GatherWhere.is, typed-GatherWhere, sym c.get-in-GatherWhere.ensures, sym c.get-in-GatherWhere-2.ensures, sym c.get-in-GatherWhere-3.ensures) c.typed_choosing.ensures
+typed-returns-in-GatherWhere t c =
+    rw (c.in-GatherWhere.is, typed-GatherWhere, sym c.get-in-GatherWhere.ensures, sym c.get-in-GatherWhere-2.ensures, sym c.get-in-GatherWhere-3.ensures)
+    c.typed_choosing.ensures
 
 pub typed-returns-in-Test : goal.typed-returns-in-Test
 typed-returns-in-Test t c = rw (c.in-Test.is, typed-Test, sym c.get-in-Test.ensures, sym c.get-in-Test-2.ensures) c.typed_test.ensures
@@ -47,7 +50,8 @@ typed_inside-returns t c =
 
 pub typed_parts-loop-part-preserved : goal.typed_parts-loop-part-preserved
 typed_parts-loop-part-preserved t c =
-    part_typed c.args.parts.now c.loop-part.part-index c.part-item.result (within c.args.scope.now c.args.bound.now) c.loop-part.list.items c.push.new.self.items c.in-Ok.part
+    part_typed c.args.parts.now c.loop-part.part-index c.part-item.result (within c.args.scope.now c.args.bound.now) c.loop-part.list.items
+    c.push.new.self.items c.in-Ok.part
     c.loop-part-test.true c.part-item.is c.loop-part.invariant c.in-Ok.ensures c.in_ok-push-in-Ok.ensures.items
 
 pub typed_parts-returns-in-Err : goal.typed_parts-returns-in-Err

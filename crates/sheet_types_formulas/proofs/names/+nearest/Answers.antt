@@ -15,6 +15,7 @@ returns t c =
     let up : c.in_ok-new.field-0 ≡ c.args.objects = search rules in
     same_if_ok c.nearest.result
     (ap (λ e. nearest r c.args.line c.args.name.now (core.Up e) (upward c.in-Some-above.next nodes c.in-Some-above.next)) up
-    ∙ ap (λ o. option_or o (nearest r c.args.line c.args.name.now (core.Up c.args.objects) (upward c.in-Some-above.next nodes c.in-Some-above.next))) (sym (child_none r c.args.line c.args.objects c.args.column c.args.name.now none))
+    ∙ ap (λ o. option_or o (nearest r c.args.line c.args.name.now (core.Up c.args.objects) (upward c.in-Some-above.next nodes c.in-Some-above.next)))
+    (sym (child_none r c.args.line c.args.objects c.args.column c.args.name.now none))
     ∙ ap (nearest r c.args.line c.args.name.now c.args.objects) (sym (upward_above nodes c.above.ensures.tree c.args.column c.in-Some-above.next next)))
     c.nearest.ensures

@@ -37,7 +37,8 @@ loop-content-preserved c =
     let place : c.len-in-Some.result ≡ length items = omega arith in
     let changed : c.set.new.self ≡ with_column columns (length items) x = c.set.ensures ∙ ap (λ k. with_column columns k x) place in
     record {
-      filled = ap (λ ns. filled ns items) changed ∙ filled_last columns items x alike ∙ ap (filled columns) (sym c.in-Some.ensures.items) ∙ c.loop-content.invariant.filled;
+      filled = ap (λ ns. filled ns items) changed ∙ filled_last columns items x alike ∙ ap (filled columns) (sym c.in-Some.ensures.items)
+          ∙ c.loop-content.invariant.filled;
       alike = subst (λ ns. AreAlike ns items) (sym changed) (front_alike columns items x alike);
       fitting = front_fitting items x (subst AreFitting c.in-Some.ensures.items c.loop-content.invariant.fitting);
     }

@@ -26,7 +26,8 @@ resolve-requires-clause-counted c =
     let x = c.declaration-item.result in
     let split : drop i ds ≡ x ∷ drop (i + 1) ds = drop_item ds i x c.loop-declaration-test.true c.declaration-item.is in
     let old = c.loop-declaration.known in
-    counted c.args.columns.now old.contents x (drop (i + 1) ds) (ap (λ es. map holds_objects old.contents ++ objects_in es) (sym split) ∙ c.loop-declaration.invariant.sorts)
+    counted c.args.columns.now old.contents x (drop (i + 1) ds) (ap (λ es. map holds_objects old.contents ++ objects_in es) (sym split)
+    ∙ c.loop-declaration.invariant.sorts)
 
 pub loop-declaration-preserved : goal.loop-declaration-preserved
 loop-declaration-preserved c =
@@ -41,7 +42,8 @@ loop-declaration-preserved c =
     let unsigned : IsUnsignedAt x × AreUnsigned rest = subst AreUnsigned split c.loop-declaration.invariant.unsigned in
     let g = grows c.args.columns.now old new x c.loop-declaration.invariant.fitting told in
     record {
-      turns = turned (resolve c.args.columns.now) old new x rest _ (ap (in_turn (resolve c.args.columns.now) old) (sym split) ∙ c.loop-declaration.invariant.turns) told;
+      turns = turned (resolve c.args.columns.now) old new x rest _ (ap (in_turn (resolve c.args.columns.now) old) (sym split)
+          ∙ c.loop-declaration.invariant.turns) told;
       unsigned = unsigned.1;
       sorts = ap (λ bs. bs ++ objects_in rest) g.sorts ∙ append_assoc (map holds_objects old.contents) (objects_at x) (objects_in rest)
           ∙ ap (λ es. map holds_objects old.contents ++ objects_in es) (sym split) ∙ c.loop-declaration.invariant.sorts;

@@ -22,7 +22,10 @@ pub family_of-requires-clause-order : goal.family_of-requires-clause-order
 family_of-requires-clause-order c = subst NeverFalls (sym c.extents.ensures) (never_falls c.self.inside.tables.present.extents c.self.invariant.0.extents)
 
 pub family_of-requires-clause-descends : goal.family_of-requires-clause-descends
-family_of-requires-clause-descends c = subst Descends (sym c.extents.ensures) (descends c.args.columns.now c.self.inside.tables.present c.self.invariant.0 (subst (IsKept c.args.columns.now) (sym c.self.view_is) c.requires.kept).present)
+family_of-requires-clause-descends c =
+    subst Descends (sym c.extents.ensures)
+    (descends c.args.columns.now c.self.inside.tables.present c.self.invariant.0
+    (subst (IsKept c.args.columns.now) (sym c.self.view_is) c.requires.kept).present)
 
 pub places_of-requires-clause-kept : goal.places_of-requires-clause-kept
 places_of-requires-clause-kept c = (c.args.columns.now, (subst (IsKept c.args.columns.now) (sym c.self.view_is) c.requires.kept).present)
@@ -36,7 +39,8 @@ knows c =
     let o = c.args.object in
     let kept = subst (IsKept c.args.columns.now) (sym c.self.view_is) c.requires.kept in
     let live = subst (λ w. IsSome (object_at w.present.state.objects o)) (sym c.self.view_is) c.requires.live in
-    family_known c.args.columns.now t c.self.invariant.0 kept.present o c.requires.not_root live c.in_ok-doomed.doomed (subst (λ rows. IsFamily rows o c.in_ok-doomed.doomed) c.extents.ensures c.in_ok-doomed.ensures)
+    family_known c.args.columns.now t c.self.invariant.0 kept.present o c.requires.not_root live c.in_ok-doomed.doomed
+    (subst (λ rows. IsFamily rows o c.in_ok-doomed.doomed) c.extents.ensures c.in_ok-doomed.ensures)
 
 pub invariant_of-self-2 : goal.invariant_of-self-2
 invariant_of-self-2 c =
@@ -45,10 +49,12 @@ invariant_of-self-2 c =
     let refs = c.self.inside.references in
     let kept = subst (IsKept c.args.columns.now) (sym c.self.view_is) c.requires.kept in (
       subst IsSound (sym (made c)) (sound_rid c.args.columns.now t c.self.invariant.0 kept.present c.args.object c.requires.not_root d (knows c)),
-      subst (AllByRecursion IsSound) (sym c.in_ok-items.ensures.earlier) (all_push IsSound c.self.inside.tables.earlier t c.self.invariant.1 c.self.invariant.0),
+      subst (AllByRecursion IsSound) (sym c.in_ok-items.ensures.earlier)
+          (all_push IsSound c.self.inside.tables.earlier t c.self.invariant.1 c.self.invariant.0),
       c.self.invariant.2,
       subst (IsListed refs) (sym (made c)) (cells_swept refs d t.cells c.self.invariant.3),
-      subst (AllByRecursion (IsListed refs)) (sym c.in_ok-items.ensures.earlier) (all_push (IsListed refs) c.self.inside.tables.earlier t c.self.invariant.4 c.self.invariant.3),
+      subst (AllByRecursion (IsListed refs)) (sym c.in_ok-items.ensures.earlier)
+          (all_push (IsListed refs) c.self.inside.tables.earlier t c.self.invariant.4 c.self.invariant.3),
     )
 
 state_is : (c : goal.After-drop-doomed-inside-2) → state_of c.take_away.new.tables.present ≡ without_object c.args.self.now.present.state c.args.object
@@ -78,6 +84,9 @@ returns-clause-kept c =
     let nodes = c.args.columns.now in
     let kept = subst (IsKept nodes) (sym c.self.view_is) c.requires.kept in
     record {
-      present = subst (λ u. IsMoment nodes (moment u)) (sym (made c)) (moment_rid nodes t c.self.invariant.0 kept.present c.args.object c.requires.not_root c.in_ok-doomed.doomed (knows c));
-      earlier = subst (λ ts. AllByRecursion (IsMoment nodes) (map moment ts)) (sym c.in_ok-items.ensures.earlier) (subst (AllByRecursion (IsMoment nodes)) (sym (map-append moment c.self.inside.tables.earlier (t ∷ []))) (all_push (IsMoment nodes) (map moment c.self.inside.tables.earlier) (moment t) kept.earlier kept.present));
+      present = subst (λ u. IsMoment nodes (moment u)) (sym (made c))
+          (moment_rid nodes t c.self.invariant.0 kept.present c.args.object c.requires.not_root c.in_ok-doomed.doomed (knows c));
+      earlier = subst (λ ts. AllByRecursion (IsMoment nodes) (map moment ts)) (sym c.in_ok-items.ensures.earlier)
+          (subst (AllByRecursion (IsMoment nodes)) (sym (map-append moment c.self.inside.tables.earlier (t ∷ [])))
+          (all_push (IsMoment nodes) (map moment c.self.inside.tables.earlier) (moment t) kept.earlier kept.present));
     }

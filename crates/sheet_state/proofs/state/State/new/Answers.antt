@@ -19,14 +19,16 @@ root = record { number = 0; column = 0; parent = None; live = true }
 abbrev counted : ℕ → ℕ → Counters
 counted cells values = record { next = 1; objects = 1; cells = cells; values = values }
 
-made : (c : goal.After-empty) → c.forget.new.self.present ≡ first c.args.columns.now c.weight_of-weight.ensures.tree (counted c.weight_of-weight.result.0 c.weight_of-weight.result.1)
+made : (c : goal.After-empty) →
+    c.forget.new.self.present ≡ first c.args.columns.now c.weight_of-weight.ensures.tree (counted c.weight_of-weight.result.0 c.weight_of-weight.result.1)
 made c =
     c.forget.ensures.present
     ∙ c.in_ok-add_rows.ensures.rows
     ∙ ap (λ u. with_rows u 0 (state_columns (schema_of c.args.columns.now) 0) (object_columns c.args.columns.now 0))
     (c.in_ok-add_object.ensures.ok ∙ ap (λ (v : Versions). with_objects v.present (v.present.objects ++ root ∷ [])) c.new-tables.ensures)
 
-left : (c : goal.After-drop-items-inside-2) → c.forget.new.self.present ≡ first c.args.columns.now c.weight_of-weight.ensures.tree (counted c.weight_of-weight.result.0 c.weight_of-weight.result.1)
+left : (c : goal.After-drop-items-inside-2) →
+    c.forget.new.self.present ≡ first c.args.columns.now c.weight_of-weight.ensures.tree (counted c.weight_of-weight.result.0 c.weight_of-weight.result.1)
 left c =
     c.forget.ensures.present
     ∙ c.in_ok-add_rows.ensures.rows
@@ -35,7 +37,8 @@ left c =
 
 pub invariant_of-result : goal.invariant_of-result
 invariant_of-result c = (
-  subst IsSound (sym (made c)) (sound_first c.args.columns.now c.weight_of-weight.ensures.tree (counted c.weight_of-weight.result.0 c.weight_of-weight.result.1) refl refl c.weight_of-weight.ensures.values),
+  subst IsSound (sym (made c)) (sound_first c.args.columns.now c.weight_of-weight.ensures.tree (counted c.weight_of-weight.result.0 c.weight_of-weight.result.1)
+      refl refl c.weight_of-weight.ensures.values),
   subst (AllByRecursion IsSound) (sym c.forget.ensures.earlier) tt,
   c.empty.ensures,
   subst (IsListed _) (sym (made c)) (cells_born _ c.args.columns.now c.weight_of-weight.ensures.tree 0 0 [] tt),
@@ -43,7 +46,8 @@ invariant_of-result c = (
 )
 
 pub returns-clause-state : goal.returns-clause-state
-returns-clause-state c = ap state_of (left c) ∙ state_first c.args.columns.now c.weight_of-weight.ensures.tree (counted c.weight_of-weight.result.0 c.weight_of-weight.result.1) refl
+returns-clause-state c =
+    ap state_of (left c) ∙ state_first c.args.columns.now c.weight_of-weight.ensures.tree (counted c.weight_of-weight.result.0 c.weight_of-weight.result.1) refl
 
 pub returns-clause-kept : goal.returns-clause-kept
 returns-clause-kept c =
@@ -51,6 +55,7 @@ returns-clause-kept c =
     record {
       present =
           subst (λ u. IsMoment c.args.columns.now (moment u)) (sym (left c))
-          (moment_first c.args.columns.now w.tree (counted c.weight_of-weight.result.0 c.weight_of-weight.result.1) refl w.cells w.few_cells (omega (arith, w.values, w.few_values)));
+          (moment_first c.args.columns.now w.tree (counted c.weight_of-weight.result.0 c.weight_of-weight.result.1) refl w.cells w.few_cells
+          (omega (arith, w.values, w.few_values)));
       earlier = subst (λ ts. AllByRecursion (IsMoment c.args.columns.now) (map moment ts)) (sym c.forget.ensures.earlier) tt;
     }

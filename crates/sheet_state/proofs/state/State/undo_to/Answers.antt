@@ -23,6 +23,7 @@ returns-clause-kept c = λ nodes kept.
       present = all_get (IsMoment nodes) (c.args.self.now.earlier ++ c.args.self.now.present ∷ []) c.args.mark.place (moment c.undo_to.new.self.present) all
           (subst (λ v. slice_get (v.earlier ++ v.present ∷ []) c.args.mark.place ≡ Some (moment c.undo_to.new.self.present)) c.self.view_is
           (ap (λ l. slice_get l c.args.mark.place) (sym (map-append moment c.self.inside.tables.earlier (c.self.inside.tables.present ∷ [])))
-          ∙ get_map moment (c.self.inside.tables.earlier ++ c.self.inside.tables.present ∷ []) c.args.mark.place c.undo_to.new.self.present c.undo_to.ensures.present));
+          ∙ get_map moment (c.self.inside.tables.earlier ++ c.self.inside.tables.present ∷ []) c.args.mark.place c.undo_to.new.self.present
+          c.undo_to.ensures.present));
       earlier = subst (AllByRecursion (IsMoment nodes)) (sym (left c)) (all_take (IsMoment nodes) c.args.self.now.earlier c.args.mark.place kept.earlier);
     }

@@ -8,6 +8,7 @@ use Rattle.sheet_state_references.proofs.references.References.note_all.Given as
 
 abbrev pub invariant-loop-value : goal.invariant-loop-value
 invariant-loop-value l = record {
-  noted : (n : ℕ) → has_value (Object n) (take l.value-index l.value-items) ≡ true → contains reference_cmp (record { to = n; object = l.object; column = l.column }) l.self ≡ true;
+  noted : (n : ℕ) → has_value (Object n) (take l.value-index l.value-items) ≡ true →
+      contains reference_cmp (record { to = n; object = l.object; column = l.column }) l.self ≡ true;
   others : (r : Reference) → contains reference_cmp r l.fn.self ≡ true → contains reference_cmp r l.self ≡ true;
 }

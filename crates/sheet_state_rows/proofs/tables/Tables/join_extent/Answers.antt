@@ -22,9 +22,11 @@ invariant_of-self-then-branch c =
     let lt : k < length xs = search rules in
     let none = absent _ (contains (Object c.args.object) (set_row xs k).set) c.in_ok-join.ensures.is_new c.if-branch.true in
     let pushed : c.push_reserved.new.self.items ≡ c.self.inside.edits.items ++ ExtentJoined k c.args.object ∷ [] = search rules in
-    let back = ap (with_extents t) (ap (λ l. slice_set l k (parted c.args.object (set_row l k))) c.in_ok-join.ensures.rows ∙ join_back xs k c.args.object lt none) in
+    let back = ap (with_extents t) (ap (λ l. slice_set l k (parted c.args.object (set_row l k))) c.in_ok-join.ensures.rows
+    ∙ join_back xs k c.args.object lt none) in
     let still : k < length c.join.new.rows.items = omega (arith, ap length c.in_ok-join.ensures.rows, length-set xs k (joined c.args.object (set_row xs k))) in
-    still_can c.self.inside.edits.items c.push_reserved.new.self.items (ExtentJoined k c.args.object) t _ pushed back (λ v vs. refl) c.self.inside.begun still c.self.invariant
+    still_can c.self.inside.edits.items c.push_reserved.new.self.items (ExtentJoined k c.args.object) t _ pushed back (λ v vs. refl) c.self.inside.begun still
+    c.self.invariant
 
 pub returns-then-branch-clause-earlier : goal.returns-then-branch-clause-earlier
 returns-then-branch-clause-earlier c =
@@ -34,5 +36,7 @@ returns-then-branch-clause-earlier c =
     let lt : k < length xs = search rules in
     let none = absent _ (contains (Object c.args.object) (set_row xs k).set) c.in_ok-join.ensures.is_new c.if-branch.true in
     let pushed : c.push_reserved.new.self.items ≡ c.self.inside.edits.items ++ ExtentJoined k c.args.object ∷ [] = search rules in
-    let back = ap (with_extents t) (ap (λ l. slice_set l k (parted c.args.object (set_row l k))) c.in_ok-join.ensures.rows ∙ join_back xs k c.args.object lt none) in
-    past_kept c.self.inside.edits.items c.push_reserved.new.self.items (ExtentJoined k c.args.object) t _ pushed back (λ v vs. refl) ∙ ap (λ v. v.earlier) c.self.view_is
+    let back = ap (with_extents t) (ap (λ l. slice_set l k (parted c.args.object (set_row l k))) c.in_ok-join.ensures.rows
+    ∙ join_back xs k c.args.object lt none) in
+    past_kept c.self.inside.edits.items c.push_reserved.new.self.items (ExtentJoined k c.args.object) t _ pushed back (λ v vs. refl)
+    ∙ ap (λ v. v.earlier) c.self.view_is

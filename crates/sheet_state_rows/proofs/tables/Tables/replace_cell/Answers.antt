@@ -13,9 +13,12 @@ invariant_of-self-2 c =
     let t = seen c.self.inside.rows in
     let lt : c.args.place < length xs = search rules in
     let pushed : c.push_reserved.new.self.items ≡ c.self.inside.edits.items ++ CellReplaced c.args.place c.exchange-old.result ∷ [] = search rules in
-    let back = ap (with_cells t) (ap (λ l. slice_set l c.args.place c.exchange-old.result) c.exchange-old.ensures.rows ∙ set_back xs c.args.place c.exchange-old.result c.args.row lt c.exchange-old.ensures.old) in
-    let still : c.args.place < length c.exchange-old.new.rows.items = omega (arith, ap length c.exchange-old.ensures.rows, length-set xs c.args.place c.args.row) in
-    still_can c.self.inside.edits.items c.push_reserved.new.self.items (CellReplaced c.args.place c.exchange-old.result) t _ pushed back (λ v vs. refl) c.self.inside.begun still c.self.invariant
+    let back = ap (with_cells t) (ap (λ l. slice_set l c.args.place c.exchange-old.result) c.exchange-old.ensures.rows
+    ∙ set_back xs c.args.place c.exchange-old.result c.args.row lt c.exchange-old.ensures.old) in
+    let still : c.args.place < length c.exchange-old.new.rows.items =
+    omega (arith, ap length c.exchange-old.ensures.rows, length-set xs c.args.place c.args.row) in
+    still_can c.self.inside.edits.items c.push_reserved.new.self.items (CellReplaced c.args.place c.exchange-old.result) t _ pushed back (λ v vs. refl)
+    c.self.inside.begun still c.self.invariant
 
 pub returns-clause-earlier : goal.returns-clause-earlier
 returns-clause-earlier c =
@@ -23,5 +26,7 @@ returns-clause-earlier c =
     let t = seen c.self.inside.rows in
     let lt : c.args.place < length xs = search rules in
     let pushed : c.push_reserved.new.self.items ≡ c.self.inside.edits.items ++ CellReplaced c.args.place c.exchange-old.result ∷ [] = search rules in
-    let back = ap (with_cells t) (ap (λ l. slice_set l c.args.place c.exchange-old.result) c.exchange-old.ensures.rows ∙ set_back xs c.args.place c.exchange-old.result c.args.row lt c.exchange-old.ensures.old) in
-    past_kept c.self.inside.edits.items c.push_reserved.new.self.items (CellReplaced c.args.place c.exchange-old.result) t _ pushed back (λ v vs. refl) ∙ ap (λ v. v.earlier) c.self.view_is
+    let back = ap (with_cells t) (ap (λ l. slice_set l c.args.place c.exchange-old.result) c.exchange-old.ensures.rows
+    ∙ set_back xs c.args.place c.exchange-old.result c.args.row lt c.exchange-old.ensures.old) in
+    past_kept c.self.inside.edits.items c.push_reserved.new.self.items (CellReplaced c.args.place c.exchange-old.result) t _ pushed back (λ v vs. refl)
+    ∙ ap (λ v. v.earlier) c.self.view_is
