@@ -12,6 +12,7 @@ use Rattle.std.proofs.lemmas.Bool.{eqb-true, cases_lt}
 use Rattle.sheet_values.specs.Sorted.{contains}
 use Rattle.sheet_state_references.specs.Order.{reference_cmp, is_to}
 use Rattle.sheet_state_references.specs.declared.references.Reference.{Reference}
+use Rattle.sheet_state_references.proofs.Numbers.{other}
 
 -- the least reference to an object
 abbrev pub least : ℕ → Reference
@@ -40,9 +41,6 @@ tied n r e =
 
 above : (n : ℕ) (r : Reference) → r.to < n → is_le (reference_cmp (least n) r) ≡ false
 above n r lt = ap (λ o. is_le (ordering_then o (ordering_then (nat_cmp 0 r.object) (nat_cmp 0 r.column)))) (sym (nat_cmp_is n r.to Greater lt))
-
-other : (a b : ℕ) → (a ≡ b → ⊥) → (a == b) ≡ false
-other a b ne = elim (a == b) as (λ t. (a == b) ≡ t → t ≡ false) [ true ↦ λ e. absurd (ne (eqb-true a b e)) | false ↦ λ e. refl ] refl
 
 inside : (n : ℕ) (r : Reference) → range_contains reference_cmp (Included (least n)) (Excluded (least (n + 1))) r ≡ is_to n r
 inside n r =
@@ -75,7 +73,8 @@ inside n r =
 pub between : (n : ℕ) (rs : List Reference) → filter (range_contains reference_cmp (Included (least n)) (Excluded (least (n + 1)))) rs ≡ filter (is_to n) rs
 between n [] = refl
 between n (r ∷ rs) =
-    ap (λ b. cond b (r ∷ filter (range_contains reference_cmp (Included (least n)) (Excluded (least (n + 1)))) rs) (filter (range_contains reference_cmp (Included (least n)) (Excluded (least (n + 1)))) rs)) (inside n r)
+    ap (λ b. cond b (r ∷ filter (range_contains reference_cmp (Included (least n)) (Excluded (least (n + 1)))) rs)
+    (filter (range_contains reference_cmp (Included (least n)) (Excluded (least (n + 1)))) rs)) (inside n r)
     ∙ ap (λ l. cond (is_to n r) (r ∷ l) l) (between n rs)
 
 pub same_reference : (r q : Reference) → is_eq (reference_cmp r q) ≡ true → r ≡ q
@@ -104,10 +103,12 @@ same_reference r q e =
     second_tied Greater b e = cc
 
 -- a reference that passes is still there where only those that pass are kept
-pub stays : (p : Reference → Bool) (r : Reference) (rs : List Reference) → contains reference_cmp r rs ≡ true → p r ≡ true → contains reference_cmp r (filter p rs) ≡ true
+pub stays : (p : Reference → Bool) (r : Reference) (rs : List Reference) → contains reference_cmp r rs ≡ true → p r ≡ true →
+    contains reference_cmp r (filter p rs) ≡ true
 stays p r [] e passes = cc
 stays p r (q ∷ rs) e passes =
-    elim (is_eq (reference_cmp r q)) as (λ b. is_eq (reference_cmp r q) ≡ b → (b || contains reference_cmp r rs) ≡ true → contains reference_cmp r (cond (p q) (q ∷ filter p rs) (filter p rs)) ≡ true) [
+    elim (is_eq (reference_cmp r q)) as (λ b. is_eq (reference_cmp r q) ≡ b → (b || contains reference_cmp r rs) ≡ true →
+    contains reference_cmp r (cond (p q) (q ∷ filter p rs) (filter p rs)) ≡ true) [
       | true ↦ λ h g.
           let kept : p q ≡ true = ap p (sym (same_reference r q h)) ∙ passes in
           ap (λ b. contains reference_cmp r (cond b (q ∷ filter p rs) (filter p rs))) kept ∙ ap (λ b. b || contains reference_cmp r (filter p rs)) h

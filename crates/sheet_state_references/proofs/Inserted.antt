@@ -10,7 +10,7 @@ use Rattle.sheet_values.specs.OrderLaws.{value_same}
 use Rattle.sheet_values.specs.Sets.{contains, insert}
 use Rattle.sheet_values.specs.declared.value.Value.{Value}
 
-tie : (r : Ordering) → is_eq r ≡ true → r ≡ Equal
+pub tie : (r : Ordering) → is_eq r ≡ true → r ≡ Equal
 tie Less e = cc
 tie Equal e = refl
 tie Greater e = cc
@@ -22,11 +22,13 @@ value_is x y e = value_same x y (tie (value_cmp x y) e)
 pub has_inserted : (x y : Value) (xs : List Value) → contains x (insert y xs) ≡ (is_eq (value_cmp x y) || contains x xs)
 has_inserted x y [] = refl
 has_inserted x y (z ∷ zs) =
-    elim (value_cmp y z) as (λ o. value_cmp y z ≡ o → contains x (by_order o (y ∷ z ∷ zs) (z ∷ zs) (z ∷ insert y zs)) ≡ (is_eq (value_cmp x y) || (is_eq (value_cmp x z) || contains x zs))) [
+    elim (value_cmp y z) as (λ o. value_cmp y z ≡ o →
+    contains x (by_order o (y ∷ z ∷ zs) (z ∷ zs) (z ∷ insert y zs)) ≡ (is_eq (value_cmp x y) || (is_eq (value_cmp x z) || contains x zs))) [
       | Less ↦ λ e. refl
       | Equal ↦ λ e.
           let same : y ≡ z = value_is y z (ap is_eq e) in
-          subst (λ w. (is_eq (value_cmp x z) || contains x zs) ≡ (is_eq (value_cmp x w) || (is_eq (value_cmp x z) || contains x zs))) (sym same) (twice (is_eq (value_cmp x z)) (contains x zs))
+          subst (λ w. (is_eq (value_cmp x z) || contains x zs) ≡ (is_eq (value_cmp x w) || (is_eq (value_cmp x z) || contains x zs))) (sym same)
+          (twice (is_eq (value_cmp x z)) (contains x zs))
       | Greater ↦ λ e. ap (λ b. is_eq (value_cmp x z) || b) (has_inserted x y zs) ∙ turned (is_eq (value_cmp x z)) (is_eq (value_cmp x y)) (contains x zs)
     ] refl
   where

@@ -1,5 +1,6 @@
 -- Numbers among others, and what stands under an object by some of the rows.
-use Rattle.std.proofs.Common.{◌≡◌, refl, sym, ap, ◌∙◌, ℕ, ◌<◌, ◌≤◌, zero, suc, Bool, true, false, cond, List, [], ◌∷◌, length, take, get_or, arith, eq-eqb, inl, inr}
+use Rattle.std.proofs.Common.{◌≡◌, refl, sym, ap, ◌∙◌, ℕ, ◌<◌, ◌≤◌, zero, suc, Bool, true, false, cond, List, [], ◌∷◌, length, take, get_or, arith, eq-eqb, inl}
+use Rattle.std.proofs.Common.{inr}
 use Rattle.std.specs.Prelude.{◌==◌, ◌&&◌, ◌||◌}
 use Rattle.std.specs.List.{list_any}
 use Rattle.std.specs.Ordering.{is_eq, nat_cmp}
@@ -15,7 +16,7 @@ use Rattle.sheet_state_references.specs.Below.{holds_under}
 use Rattle.sheet_state_references.specs.Order.{holds_reference}
 use Rattle.sheet_state_references.specs.declared.references.Reference.{Reference}
 
-other : (a b : ℕ) → (a ≡ b → ⊥) → (a == b) ≡ false
+pub other : (a b : ℕ) → (a ≡ b → ⊥) → (a == b) ≡ false
 other a b ne = elim (a == b) as (λ t. (a == b) ≡ t → t ≡ false) [ true ↦ λ e. absurd (ne (eqb-true a b e)) | false ↦ λ e. refl ] refl
 
 pub ties : (a b : ℕ) → is_eq (nat_cmp a b) ≡ (a == b)
@@ -62,14 +63,16 @@ no_object n (Text b) h = refl
 no_object n (Object m) h = absurd (h m refl)
 
 -- where all that pass stand from a place on, none passes before it
-pub none_before : {A : Type 0} (p : A → Bool) (xs : List A) (d : A) (i : ℕ) → ((k : ℕ) → k < i → k < length xs → p (get_or xs k d) ≡ false) → list_any p (take i xs) ≡ false
+pub none_before : {A : Type 0} (p : A → Bool) (xs : List A) (d : A) (i : ℕ) → ((k : ℕ) → k < i → k < length xs → p (get_or xs k d) ≡ false) →
+    list_any p (take i xs) ≡ false
 none_before {A} p xs d zero h = refl
 none_before {A} p [] d (suc i) h = refl
 none_before {A} p (x ∷ xs) d (suc i) h =
     ap (λ b. b || list_any p (take i xs)) (h 0 (omega arith) (omega arith)) ∙ none_before p xs d i (λ k lt fits. h (suc k) (omega arith) (omega arith))
 
 -- and where all that pass stand before a place, none passes behind it
-pub none_behind : {A : Type 0} (p : A → Bool) (xs : List A) (d : A) (i : ℕ) → ((k : ℕ) → i ≤ k → k < length xs → p (get_or xs k d) ≡ false) → list_any p (take i xs) ≡ list_any p xs
+pub none_behind : {A : Type 0} (p : A → Bool) (xs : List A) (d : A) (i : ℕ) → ((k : ℕ) → i ≤ k → k < length xs → p (get_or xs k d) ≡ false) →
+    list_any p (take i xs) ≡ list_any p xs
 none_behind {A} p [] d zero h = refl
 none_behind {A} p [] d (suc i) h = refl
 none_behind {A} p (x ∷ xs) d zero h =

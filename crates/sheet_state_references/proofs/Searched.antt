@@ -22,15 +22,15 @@ pub record Searched (rows : List SetRow) (o : ℕ) (waiting : List ℕ) (found :
   pub waits : (q : ℕ → Bool) → q o ≡ true → GoesDown rows q → (n : ℕ) → has n waiting ≡ true → q n ≡ true
   pub least : (q : ℕ → Bool) → q o ≡ true → GoesDown rows q → (v : Value) → contains v found ≡ true → IsObjectWith q v
 
-one_of : (a b : Bool) → (a || b) ≡ true → (a ≡ true) ⊎ (b ≡ true)
+pub one_of : (a b : Bool) → (a || b) ≡ true → (a ≡ true) ⊎ (b ≡ true)
 one_of true b e = inl refl
 one_of false b e = inr e
 
-left : (a b : Bool) → a ≡ true → (a || b) ≡ true
+pub left : (a b : Bool) → a ≡ true → (a || b) ≡ true
 left true b e = refl
 left false b e = cc
 
-right : (a b : Bool) → b ≡ true → (a || b) ≡ true
+pub right : (a b : Bool) → b ≡ true → (a || b) ≡ true
 right true b e = refl
 right false b e = e
 
@@ -61,7 +61,8 @@ starts rows o = record {
     at q e n (inl h) = ap q (same_number n o h) ∙ e
     at q e n (inr h) = cc
 
-module _ (rows : List SetRow) (o m : ℕ) (rest : List ℕ) (found : List Value) (s : Searched rows o (m ∷ rest) found) (next : List ℕ) (is : (n : ℕ) → has n next ≡ (has n rest || stands_under rows m n)) where
+module _ (rows : List SetRow) (o m : ℕ) (rest : List ℕ) (found : List Value) (s : Searched rows o (m ∷ rest) found) (next : List ℕ) (is : (n : ℕ) →
+    has n next ≡ (has n rest || stands_under rows m n)) where
   abbrev more : List Value
   more = insert (Object m) found
 
@@ -82,7 +83,8 @@ module _ (rows : List SetRow) (o m : ℕ) (rest : List ℕ) (found : List Value)
     least = λ q e down v h. found_one q e down v (one_of (is_eq (value_cmp v (Object m))) (contains v found) (sym (has_inserted v (Object m) found) ∙ h));
   }
     where
-      goes : (p n : ℕ) → stands_under rows p n ≡ true → (is_eq (nat_cmp p m) ≡ true) ⊎ (contains (Object p) found ≡ true) → (has n next || contains (Object n) more) ≡ true
+      goes : (p n : ℕ) → stands_under rows p n ≡ true → (is_eq (nat_cmp p m) ≡ true) ⊎ (contains (Object p) found ≡ true) →
+          (has n next || contains (Object n) more) ≡ true
       goes p n u (inl h) = below n (ap (λ k. stands_under rows k n) (sym (same_number p m h)) ∙ u)
       goes p n u (inr h) = still n (s.down p n h u)
 
@@ -93,7 +95,8 @@ module _ (rows : List SetRow) (o m : ℕ) (rest : List ℕ) (found : List Value)
       wait q e down n (inl h) = s.waits q e down n (right (is_eq (nat_cmp n m)) (has n rest) h)
       wait q e down n (inr h) = down m n (mine q e down) h
 
-      found_one : (q : ℕ → Bool) → q o ≡ true → GoesDown rows q → (v : Value) → (is_eq (value_cmp v (Object m)) ≡ true) ⊎ (contains v found ≡ true) → IsObjectWith q v
+      found_one : (q : ℕ → Bool) → q o ≡ true → GoesDown rows q → (v : Value) → (is_eq (value_cmp v (Object m)) ≡ true) ⊎ (contains v found ≡ true) →
+          IsObjectWith q v
       found_one q e down v (inl h) = (m, value_is v (Object m) h, mine q e down)
       found_one q e down v (inr h) = s.least q e down v h
 
@@ -127,7 +130,8 @@ all_greater m (k ∷ ns) all n h =
       | inr e ↦ all_greater m ns (λ j d lt. all (suc j) d (omega arith)) n e
     ]
 
-pub falls : (rows : List SetRow) (m : ℕ) (rest next : List ℕ) → m < 2 ^ 64 → Descends rows → All (λ n. nat_cmp m n ≡ Less) rest → ((n : ℕ) → has n next ≡ (has n rest || stands_under rows m n)) → remaining next < 2 ^ 64 - m
+pub falls : (rows : List SetRow) (m : ℕ) (rest next : List ℕ) → m < 2 ^ 64 → Descends rows → All (λ n. nat_cmp m n ≡ Less) rest →
+    ((n : ℕ) → has n next ≡ (has n rest || stands_under rows m n)) → remaining next < 2 ^ 64 - m
 falls rows m rest [] fits lower above is = omega arith
 falls rows m rest (k ∷ ks) fits lower above is =
     let greater = at (one_of (has k rest) (stands_under rows m k) (sym (is k) ∙ left (is_eq (nat_cmp k k)) (has k ks) (itself k))) in omega arith

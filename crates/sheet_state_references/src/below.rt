@@ -10,32 +10,31 @@ use sheet_values::{NoMemory, Set, Value};
 use std::alloc::Global;
 use std::collections::BTreeSet;
 
-/// Where the rows of an object stand: from the first place on, and before the second.
+/// Where the rows of an object stand, and no others: from the first place on, and before the second.
 pub fn own_places(rows: &[SetRow], object: u64) -> (usize, usize)
     requires { NeverFalls rows.now }
     ensures within { result.1 ≤ length rows.now }
     ensures all { (k : ℕ) → k < length rows.now → (set_row rows.now k).object ≡ object → (result.0 ≤ k) × (k < result.1) }
+    ensures own { (k : ℕ) → result.0 ≤ k → k < result.1 → (set_row rows.now k).object ≡ object }
 {
-    let from = start_of(rows, object);
-    let end = match object.checked_add(1) {
-        Some(next) => start_of(rows, next),
-        None => rows.len(),
-    };
+    let number = u128::from(object);
+    let from = start_of(rows, number);
+    let end = start_of(rows, number + 1);
     (from, end)
 }
 
 // The place of the first row whose object has this number or a greater one, by halving.
-fn start_of(rows: &[SetRow], object: u64) -> usize
+fn start_of(rows: &[SetRow], number: u128) -> usize
     requires { NeverFalls rows.now }
     ensures within { result ≤ length rows.now }
-    ensures before { (k : ℕ) → k < result → (set_row rows.now k).object < object }
-    ensures behind { (k : ℕ) → result ≤ k → k < length rows.now → object ≤ (set_row rows.now k).object }
+    ensures before { (k : ℕ) → k < result → (set_row rows.now k).object < number }
+    ensures behind { (k : ℕ) → result ≤ k → k < length rows.now → number ≤ (set_row rows.now k).object }
 {
     let mut low = 0;
     let mut high = rows.len();
     while low < high {
         let middle = low + (high - low) / 2;
-        if rows[middle].object < object {
+        if u128::from(rows[middle].object) < number {
             low = middle + 1;
         } else {
             high = middle;

@@ -1,5 +1,5 @@
 // References, in rising order.
-ghost use Rattle.std.specs.Prelude.{◌≡◌, ◌<◌, ◌+◌, ◌^◌, ℕ, [], true, false, filter, OnOk, OnErr, IfOk};
+ghost use Rattle.std.specs.Prelude.{◌≡◌, ◌<◌, ◌+◌, ◌^◌, ℕ, [], true, false, filter, length, OnOk, OnErr, IfOk};
 ghost use Rattle.std.specs.Ordering.{is_gt};
 ghost use Rattle.std.specs.BTreeMap.Range.{range_contains};
 ghost use Rattle.sheet_values.specs.Sorted.{contains};
@@ -118,7 +118,9 @@ impl References {
     }
 
     /// How many there are. It takes no memory.
-    pub fn len(&self) -> usize {
+    pub fn len(&self) -> usize
+        ensures { result ≡ length self.now }
+    {
         self.entries.len()
     }
 }

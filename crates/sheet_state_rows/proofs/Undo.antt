@@ -13,14 +13,16 @@ use Rattle.sheet_state_rows.specs.declared.row.SetRow.{SetRow}
 use Rattle.sheet_state_rows.specs.Undoing.{undone, CanUndo, CanUndoAll, begins, marked, past}
 use Rattle.sheet_state_rows.specs.declared.row.Counters.{Counters}
 use Rattle.sheet_state_rows.specs.declared.edit.Edit.{Edit}
-use Rattle.sheet_state_rows.specs.declared.edit.Edit.TheVariants.{Begun, ObjectAdded, ObjectReplaced, CellAdded, CellReplaced, ExtentAdded, ExtentReplaced, ExtentJoined}
+use Rattle.sheet_state_rows.specs.declared.edit.Edit.TheVariants.{Begun, ObjectAdded, ObjectReplaced, CellAdded, CellReplaced, ExtentAdded, ExtentReplaced}
+use Rattle.sheet_state_rows.specs.declared.edit.Edit.TheVariants.{ExtentJoined}
 
 -- what was replaced goes back to its place
 pub set_back : {A : Type 0} (xs : List A) (k : ℕ) (x y : A) → k < length xs → x ≡ get_or xs k x → slice_set (slice_set xs k y) k x ≡ xs
 set_back xs k x y lt e = set-set xs k y x ∙ ap (λ z. slice_set xs k z) e ∙ set-get_or xs k x
 
 -- an object that joined is parted again
-pub join_back : (xs : List SetRow) (k n : ℕ) → k < length xs → contains (Object n) (set_row xs k).set ≡ false → slice_set (slice_set xs k (joined n (set_row xs k))) k (parted n (set_row (slice_set xs k (joined n (set_row xs k))) k)) ≡ xs
+pub join_back : (xs : List SetRow) (k n : ℕ) → k < length xs → contains (Object n) (set_row xs k).set ≡ false →
+    slice_set (slice_set xs k (joined n (set_row xs k))) k (parted n (set_row (slice_set xs k (joined n (set_row xs k))) k)) ≡ xs
 join_back xs k n lt none =
     let r = set_row xs k in
     ap (λ (q : SetRow). slice_set (slice_set xs k (joined n r)) k (parted n q)) (set_there xs k (joined n r) lt)
@@ -85,11 +87,11 @@ past_length (e ∷ es) t =
     let rest = past_length es (undone e t) in
     omega arith
 
-get_last : {A : Type 0} (xs : List A) (x : A) → slice_get (xs ++ x ∷ []) (length xs) ≡ Some x
+pub get_last : {A : Type 0} (xs : List A) (x : A) → slice_get (xs ++ x ∷ []) (length xs) ≡ Some x
 get_last [] x = refl
 get_last (y ∷ xs) x = get_last xs x
 
-get_old : {A : Type 0} (xs ys : List A) (k : ℕ) → k < length xs → slice_get (xs ++ ys) k ≡ slice_get xs k
+pub get_old : {A : Type 0} (xs ys : List A) (k : ℕ) → k < length xs → slice_get (xs ++ ys) k ≡ slice_get xs k
 get_old [] ys k lt = absurd (omega arith)
 get_old (x ∷ xs) ys zero lt = refl
 get_old (x ∷ xs) ys (suc k) lt = get_old xs ys k (omega arith)
@@ -109,18 +111,21 @@ pub record Going (ts : List Table) (t : Table) (mark : ℕ) (es : List Edit) (u 
   pub ahead : mark ≤ begun
   pub there : begun ≡ mark → slice_get (ts ++ t ∷ []) mark ≡ Some u
 
-pub starts : (mark : ℕ) (es : List Edit) (t : Table) (begun : ℕ) → CanUndoAll es t → begun ≡ length (past es t) → mark ≤ length (past es t) → Going (past es t) t mark es t begun
+pub starts : (mark : ℕ) (es : List Edit) (t : Table) (begun : ℕ) → CanUndoAll es t → begun ≡ length (past es t) → mark ≤ length (past es t) →
+    Going (past es t) t mark es t begun
 starts mark es t begun can counted ahead = record {
   can = can;
   counted = counted;
   left = sym (take_all begun (past es t) (omega arith));
   within = omega arith;
   ahead = omega arith;
-  there = λ e. let same : mark ≡ length (past es t) = omega arith in subst (λ k. slice_get (past es t ++ t ∷ []) k ≡ Some t) (sym same) (get_last (past es t) t);
+  there = λ e. let same : mark ≡ length (past es t) = omega arith in
+      subst (λ k. slice_get (past es t ++ t ∷ []) k ≡ Some t) (sym same) (get_last (past es t) t);
 }
 
 module _ (ts : List Table) (t : Table) (mark : ℕ) where
-  quiet : (e : Edit) (es : List Edit) (u : Table) (begun : ℕ) → begins e ≡ 0 → marked e (undone e u) (past es (undone e u)) ≡ past es (undone e u) → mark < begun → Going ts t mark (e ∷ es) u begun → Going ts t mark es (undone e u) (begun - begins e)
+  quiet : (e : Edit) (es : List Edit) (u : Table) (begun : ℕ) → begins e ≡ 0 → marked e (undone e u) (past es (undone e u)) ≡ past es (undone e u) →
+      mark < begun → Going ts t mark (e ∷ es) u begun → Going ts t mark es (undone e u) (begun - begins e)
   quiet e es u begun none same lt g =
       let n : begun - begins e ≡ begun = omega arith in
       subst (λ k. Going ts t mark es (undone e u) k) (sym n) (record {
@@ -132,7 +137,8 @@ module _ (ts : List Table) (t : Table) (mark : ℕ) where
         there = λ h. absurd (omega arith);
       })
 
-  pub goes : (e : Edit) (es : List Edit) (u : Table) (begun : ℕ) → mark < begun → Going ts t mark (e ∷ es) u begun → Going ts t mark es (undone e u) (begun - begins e)
+  pub goes : (e : Edit) (es : List Edit) (u : Table) (begun : ℕ) → mark < begun → Going ts t mark (e ∷ es) u begun →
+      Going ts t mark es (undone e u) (begun - begins e)
   goes (Begun n) es u begun lt g =
       let v = with_counters u n in
       let p = past es v in
@@ -170,11 +176,13 @@ pub turned : (es es' : List Edit) (e : Edit) → es ≡ es' ++ e ∷ [] → reve
 turned es es' e h = ap reverse h ∙ reverse-append es' (e ∷ [])
 
 -- an edit that begins no change
-module _ (es es' : List Edit) (e : Edit) (t u : Table) (is : es' ≡ es ++ e ∷ []) (back : undone e u ≡ t) (quietly : (v : Table) (vs : List Table) → marked e v vs ≡ vs) where
+module _ (es es' : List Edit) (e : Edit) (t u : Table) (is : es' ≡ es ++ e ∷ []) (back : undone e u ≡ t) (quietly : (v : Table) (vs : List Table) →
+    marked e v vs ≡ vs) where
   pub past_kept : past (reverse es') u ≡ past (reverse es) t
   past_kept = ap (λ l. past l u) (turned es' es e is) ∙ quietly (undone e u) (past (reverse es) (undone e u)) ∙ ap (past (reverse es)) back
 
-  pub still_can : (n : ℕ) → CanUndo e u → CanUndoAll (reverse es) t × (n ≡ length (past (reverse es) t)) → CanUndoAll (reverse es') u × (n ≡ length (past (reverse es') u))
+  pub still_can : (n : ℕ) → CanUndo e u → CanUndoAll (reverse es) t × (n ≡ length (past (reverse es) t)) →
+      CanUndoAll (reverse es') u × (n ≡ length (past (reverse es') u))
   still_can n can h = (
     subst (λ l. CanUndoAll l u) (sym (turned es' es e is)) (can, subst (CanUndoAll (reverse es)) (sym back) h.0),
     h.1 ∙ ap length (sym past_kept),

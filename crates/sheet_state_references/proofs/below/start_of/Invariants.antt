@@ -6,8 +6,8 @@ abbrev pub invariant-loop-low : goal.invariant-loop-low
 invariant-loop-low l = record {
   order : l.low ≤ l.high;
   within : l.high ≤ length l.rows;
-  before : (k : ℕ) → k < l.low → (set_row l.rows k).object < l.object;
-  behind : (k : ℕ) → l.high ≤ k → k < length l.rows → l.object ≤ (set_row l.rows k).object;
+  before : (k : ℕ) → k < l.low → (set_row l.rows k).object < l.number;
+  behind : (k : ℕ) → l.high ≤ k → k < length l.rows → l.number ≤ (set_row l.rows k).object;
 }
 
 abbrev pub decreases-loop-low : goal.decreases-loop-low
