@@ -9,6 +9,3 @@ mod work;
 
 pub use law::columns_settle;
 pub use session::{Answered, LONGEST_REQUEST, Session};
-
-#[cfg(test)]
-mod tests;

@@ -2,8 +2,7 @@
 use Rattle.std.proofs.Common.{◌≡◌, ℕ, List, [], ◌∷◌, sym, ◌∙◌, ap}
 use Rattle.std.specs.Prelude.{Vec, length, codes}
 use Rattle.std.specs.Global.{Global}
-use Rattle.objsheet.specs.Trying.{IsTry}
-use Rattle.objsheet.specs.Checking.{IsCheck}
+use Rattle.objsheet.specs.Commands.{IsCheck, IsTry}
 
 -- no words are both commands
 pub one_command : (words : List (Vec ℕ Global)) → IsTry words → IsCheck words → ⊥

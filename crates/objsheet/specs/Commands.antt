@@ -1,10 +1,27 @@
 -- The commands.
-use Rattle.std.specs.Prelude.{ℕ, List, Option, Some, None, Vec}
+use Rattle.std.specs.Prelude.{◌≡◌, ℕ, List, [], ◌∷◌, codes, Option, Some, None, Vec}
 use Rattle.std.specs.Global.{Global}
-use Rattle.objsheet.specs.Trying.{IsTry}
-use Rattle.objsheet.specs.Checking.{IsCheck}
+use Rattle.sheet_lines.specs.Lines.{printed}
 use Rattle.objsheet.specs.declared.command.Command.{Command}
 use Rattle.objsheet.specs.declared.command.Command.TheVariants.{Check, Try}
+
+-- the words are that one word
+abbrev pub IsWord : List ℕ → List (Vec ℕ Global) → Type 0
+IsWord word [] = ⊥
+IsWord word (only ∷ []) = only.items ≡ word
+IsWord word (only ∷ other ∷ more) = ⊥
+
+-- the words are the one word `check`
+abbrev pub IsCheck : List (Vec ℕ Global) → Type 0
+IsCheck words = IsWord (codes "check") words
+
+-- the words are the one word `try`
+abbrev pub IsTry : List (Vec ℕ Global) → Type 0
+IsTry words = IsWord (codes "try") words
+
+-- the line of words that are no command
+abbrev pub usage : List ℕ
+usage = printed (codes "usage")
 
 -- the words are that command and no other, or none
 abbrev pub Names : Option Command → List (Vec ℕ Global) → Type 0

@@ -1,7 +1,6 @@
 // The words of the commands.
 ghost use Rattle.std.specs.Prelude.{◌↔◌, IsTrue};
-ghost use Rattle.objsheet.specs.Trying.{IsWord};
-ghost use Rattle.objsheet.specs.Commands.{Names};
+ghost use Rattle.objsheet.specs.Commands.{IsWord, Names};
 
 /// What the program is to do.
 #[derive(Clone, Copy, Debug, PartialEq, Eq)]

@@ -1,31 +1,32 @@
 //! A workbook that is defined in a text, changed by procedures and shown by views.
 #![tactic(auto)]
 
-mod attempt;
-mod check;
 mod command;
-mod phrase;
 mod run;
-mod serve;
-mod status;
-mod stop;
-mod verdict;
-mod whole;
 
 use crate::run::run;
-use crate::status::OUT_OF_MEMORY;
+use objsheet_status::{OUT_OF_MEMORY, SINK_FAILED, SOURCE_FAILED};
 use sheet_outside::{StdSink, StdSource};
 use std::process::ExitCode;
 use std::{env, io};
 
 fn main(rt: HostRuntime) -> ExitCode {
-    let alloc = rt.alloc();
-    let Ok(words) = words(&rt) else {
-        return ExitCode::from(OUT_OF_MEMORY);
+    let status = run_outside(&rt);
+    if let Some(line) = explanation(status) {
+        // Where this can't be written either, the status alone tells.
+        let _ = eprintln!(rt; "{line}");
+    }
+    ExitCode::from(status)
+}
+
+// Runs the program over standard input and standard output.
+fn run_outside(rt: &HostRuntime) -> u8 {
+    let Ok(words) = words(rt) else {
+        return OUT_OF_MEMORY;
     };
     let mut input = StdSource::new(rt.reader());
-    let mut output = StdSink::new(io::writer(&rt));
-    ExitCode::from(run(alloc, words.as_slice(), &mut input, &mut output))
+    let mut output = StdSink::new(io::writer(rt));
+    run(rt.alloc(), words.as_slice(), &mut input, &mut output)
 }
 
 // The words after the program's name.
@@ -35,6 +36,16 @@ fn words(rt: &HostRuntime) -> io::Result<Vec<Vec<u8>>> {
         words.push(word.into_bytes())?;
     }
     Ok(words)
+}
+
+// What people are told of a status that the output doesn't explain.
+fn explanation(status: u8) -> Option<&'static str> {
+    match status {
+        SOURCE_FAILED => Some("objsheet: the input could not be read"),
+        SINK_FAILED => Some("objsheet: the output could not be written"),
+        OUT_OF_MEMORY => Some("objsheet: there was no memory"),
+        _ => None,
+    }
 }
 
 #[cfg(test)]

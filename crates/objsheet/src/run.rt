@@ -3,18 +3,18 @@ ghost use Rattle.std.specs.Prelude.{◌≡◌, ◌⊎◌};
 ghost use Rattle.sheet_outside.specs.Causes.{Rose};
 ghost use Rattle.sheet_outside.specs.Told.{Gains, WhereTold};
 ghost use Rattle.sheet_lines.specs.Told.{both, GainsFront};
-ghost use Rattle.objsheet.specs.Trying.{IsTry, IsDone, IsRead, IsRefused, HasCauseOfRefusal, IsStopped, IsBrokenOff, usage};
-ghost use Rattle.objsheet.specs.Checking.{IsCheck, IsChecked, IsCheckedInput, IsUnfit, HasNoBook, Takes, IsCutOff};
+ghost use Rattle.objsheet_check.specs.Checking.{IsChecked, IsCheckedInput, IsUnfit, HasNoBook, Takes, IsCutOff};
+ghost use Rattle.objsheet_try.specs.Trying.{IsDone, IsRead, IsRefused, HasCauseOfRefusal, IsStopped, IsBrokenOff};
+ghost use Rattle.objsheet.specs.Commands.{IsCheck, IsTry, usage};
 
-use crate::attempt::attempt;
-use crate::check::check;
 use crate::command::{Command, command_of};
-use crate::status::{DONE, OUT_OF_MEMORY, REFUSED, SINK_FAILED, SOURCE_FAILED, USAGE, say};
-use crate::stop::Stop;
+use objsheet_check::check;
+use objsheet_status::{USAGE, write_last_line};
+use objsheet_try::try_lines;
 use sheet_outside::{Sink, Source};
 use std::alloc::Global;
 
-/// Does all that the program does, and answers its status: one of the six of `status`.
+/// Does all that the program does, and answers its status: one of the six of `objsheet_status`.
 ///
 /// The commands are `check` and `try`. `check` reads a definition, which is the whole input, and writes one line: what its
 /// book holds, or why it is refused. `try` reads a definition, a line `%%` and request lines, and answers each request line
@@ -63,30 +63,7 @@ pub fn run<S: Source, K: Sink>(
 {
     match command_of(words) {
         Some(Command::Check) => check(alloc, input, output),
-        Some(Command::Try) => run_try(alloc, input, output),
-        None => say(output, b"usage\n", USAGE),
-    }
-}
-
-// The command `try`.
-fn run_try<S: Source, K: Sink>(alloc: Global, input: &mut S, output: &mut K) -> u8
-    ensures statuses { (result ≡ 0) ⊎ ((result ≡ 1) ⊎ ((result ≡ 3) ⊎ ((result ≡ 4) ⊎ (result ≡ 7)))) }
-    ensures done { result ≡ 0 → WhereTold IsDone (both (S.left input.old) (K.written output.old)) (both (S.left input.new) (K.written output.new)) }
-    ensures done_input { result ≡ 0 → WhereTold IsRead (S.left input.old) (S.left input.new) }
-    ensures refused { result ≡ 1 → WhereTold IsRefused (both (S.left input.old) (K.written output.old)) (both (S.left input.new) (K.written output.new)) }
-    ensures refused_input { result ≡ 1 → WhereTold HasCauseOfRefusal (S.left input.old) (S.left input.new) }
-    ensures source { result ≡ 3 → Rose (S.faults input.old) (S.faults input.new) }
-    ensures stopped { result ≡ 3 → WhereTold IsStopped (both (S.left input.old) (K.written output.old)) (both (S.left input.new) (K.written output.new)) }
-    ensures sink { result ≡ 4 → Rose (K.faults output.old) (K.faults output.new) }
-    ensures sink_broken { result ≡ 4 → WhereTold IsBrokenOff (both (S.left input.old) (K.written output.old)) (both (S.left input.new) (K.written output.new)) }
-    ensures memory_broken { result ≡ 7 → WhereTold IsBrokenOff (both (S.left input.old) (K.written output.old)) (both (S.left input.new) (K.written output.new)) }
-{
-    match attempt(alloc, input, output) {
-        Ok(()) => DONE,
-        Err(Stop::LaterForm) => say(output, b"refused: later form\n", REFUSED),
-        Err(Stop::TooLong) => say(output, b"refused: too long, limit 1099511627776\n", REFUSED),
-        Err(Stop::Source) => SOURCE_FAILED,
-        Err(Stop::Sink) => SINK_FAILED,
-        Err(Stop::NoMemory) => OUT_OF_MEMORY,
+        Some(Command::Try) => try_lines(alloc, input, output),
+        None => write_last_line(output, b"usage\n", USAGE),
     }
 }

@@ -14,8 +14,8 @@ use Rattle.sheet_lines.specs.Reading.{HasNoFeed, TakesLine}
 use Rattle.sheet_lines.specs.Dividing.{Divides, IsPastLongest, StopsDividing, DividesOn, AddsLine, AddsLast}
 use Rattle.sheet_lines.specs.declared.reader.Part.{Part}
 use Rattle.sheet_lines.specs.declared.reader.Part.TheVariants as part
-use Rattle.sheet_lines.specs.declared.definition.Step.{Step}
-use Rattle.sheet_lines.specs.declared.definition.Step.TheVariants.{Line, Divided, Longer}
+use Rattle.sheet_lines.specs.declared.definition.Growth.{Growth}
+use Rattle.sheet_lines.specs.declared.definition.Growth.TheVariants.{Line, Divided, Longer}
 use Rattle.sheet_lines.proofs.Lines.{lines_feed, lines_last, said_feed, said_last}
 use Rattle.sheet_lines.proofs.Telling.{told_map, told_then, told_refl}
 use Rattle.sheet_lines.proofs.Parts.{no_feed_append}
@@ -86,12 +86,12 @@ line_from text text1 line same = ap (drop (length text)) same ∙ drop-append_se
 text_to : (text text1 line : List ℕ) → text1 ≡ text ++ line → take (length text) text1 ≡ text
 text_to text text1 line same = ap (take (length text)) same ∙ take-append_seam text line
 
-feed_step : (E : Type 0) (result : Result Step E) (text text1 text2 line old new : List ℕ) → text1 ≡ text ++ line → HasNoFeed line → old ≡ line ++ 10 ∷ new → AddsLine 262144 result (length text) text1 text2 → DividesOn result text text2 old new
+feed_grows : (E : Type 0) (result : Result Growth E) (text text1 text2 line old new : List ℕ) → text1 ≡ text ++ line → HasNoFeed line → old ≡ line ++ 10 ∷ new → AddsLine 262144 result (length text) text1 text2 → DividesOn result text text2 old new
 unfolding divides
-feed_step E (Ok Line) text text1 text2 line old new same none whole adds =
+feed_grows E (Ok Line) text text1 text2 line old new same none whole adds =
     let other : divides line ≡ false = ap (λ l. divides l) (sym (line_from text text1 line same)) ∙ adds.0 in
     (line, none, other, whole, adds.2 ∙ ap (λ l. l ++ 10 ∷ []) same ∙ append_assoc text line (10 ∷ []))
-feed_step E (Ok Divided) text text1 text2 line old new same none whole adds =
+feed_grows E (Ok Divided) text text1 text2 line old new same none whole adds =
     let here : divides line ≡ true = ap (λ l. divides l) (sym (line_from text text1 line same)) ∙ adds.0 in (
       [],
       (
@@ -102,16 +102,16 @@ feed_step E (Ok Divided) text text1 text2 line old new same none whole adds =
       ),
       adds.1 ∙ text_to text text1 line same ∙ sym (append-nil text),
     )
-feed_step E (Ok Longer) text text1 text2 line old new same none whole adds =
+feed_grows E (Ok Longer) text text1 text2 line old new same none whole adds =
     let other : divides line ≡ false = ap (λ l. divides l) (sym (line_from text text1 line same)) ∙ adds.0 in
     let size = ap length (ap definition_of whole ∙ (at_line line new none other).0) in
     omega (arith, length-append (line ++ 10 ∷ []) (definition_of new), length-append line (10 ∷ []), ap length same, length-append text line)
-feed_step E (Err e) text text1 text2 line old new same none whole adds = (line ++ 10 ∷ [], whole ∙ sym (append_assoc line (10 ∷ []) new), behind_one line none)
+feed_grows E (Err e) text text1 text2 line old new same none whole adds = (line ++ 10 ∷ [], whole ∙ sym (append_assoc line (10 ∷ []) new), behind_one line none)
 
 -- the last line, which no line feed ended
-end_step : (E : Type 0) (step : Step) (text text1 text2 line old new : List ℕ) → text1 ≡ text ++ line → HasNoFeed line → old ≡ line → new ≡ [] → AddsLast 262144 step (length text) text1 text2 → DividesOn {E = E} (Ok step) text text2 old new
-end_step E Line text text1 text2 line old new same none whole end adds = absurd adds
-end_step E Divided text text1 text2 line old new same none whole end adds =
+end_grows : (E : Type 0) (growth : Growth) (text text1 text2 line old new : List ℕ) → text1 ≡ text ++ line → HasNoFeed line → old ≡ line → new ≡ [] → AddsLast 262144 growth (length text) text1 text2 → DividesOn {E = E} (Ok growth) text text2 old new
+end_grows E Line text text1 text2 line old new same none whole end adds = absurd adds
+end_grows E Divided text text1 text2 line old new same none whole end adds =
     let from = line_from text text1 line same in
     elim adds [
       | inl divider ↦
@@ -121,7 +121,7 @@ end_step E Divided text text1 text2 line old new same none whole end adds =
           let here : bytes_eq line (codes "%%") ≡ false = ap (λ l. bytes_eq l (codes "%%")) (sym from) ∙ other.0 in
           (line, ends line old new none whole end line (definition_last line none ∙ ap (λ b. cond b [] line) here), other.2 ∙ same)
     ]
-end_step E Longer text text1 text2 line old new same none whole end adds =
+end_grows E Longer text text1 text2 line old new same none whole end adds =
     let here : bytes_eq line (codes "%%") ≡ false = ap (λ l. bytes_eq l (codes "%%")) (sym (line_from text text1 line same)) ∙ adds.0 in
     let size = ap length (ap definition_of whole ∙ definition_last line none ∙ ap (λ b. cond b [] line) here) in
     omega (arith, ap length same, length-append text line)
@@ -168,8 +168,8 @@ long_line line (c ∷ cs) none long =
 
 -- ---- what a line that was taken does
 
-taken_feed : (E : Type 0) (result : Result Step E) (text text1 text2 old new : List ℕ) → TakesLine {E = E} (Ok part.Feed) text text1 old new → AddsLine 262144 result (length text) text1 text2 → DividesOn result text text2 old new
-taken_feed E result text text1 text2 old new taken adds = feed_step E result text text1 text2 taken.0 old new taken.1 taken.2.0 taken.2.1 adds
+taken_feed : (E : Type 0) (result : Result Growth E) (text text1 text2 old new : List ℕ) → TakesLine {E = E} (Ok part.Feed) text text1 old new → AddsLine 262144 result (length text) text1 text2 → DividesOn result text text2 old new
+taken_feed E result text text1 text2 old new taken adds = feed_grows E result text text1 text2 taken.0 old new taken.1 taken.2.0 taken.2.1 adds
 
 taken_full : (E : Type 0) (text text1 old new : List ℕ) → length text ≤ 262144 → length text1 ≡ 262148 → TakesLine {E = E} (Ok part.Full) text text1 old new → DividesOn {E = E} (Ok Longer) text text1 old new
 taken_full E text text1 old new within full taken =
@@ -179,8 +179,8 @@ taken_full E text text1 old new within full taken =
     let all = ap (λ l. length (definition_of l)) taken.2.1 in
     omega arith
 
-taken_end : (E : Type 0) (step : Step) (text text1 text2 old new : List ℕ) → TakesLine {E = E} (Ok part.End) text text1 old new → AddsLast 262144 step (length text) text1 text2 → DividesOn {E = E} (Ok step) text text2 old new
-taken_end E step text text1 text2 old new taken adds = end_step E step text text1 text2 taken.0 old new taken.1 taken.2.0 taken.2.1 taken.2.2 adds
+taken_end : (E : Type 0) (growth : Growth) (text text1 text2 old new : List ℕ) → TakesLine {E = E} (Ok part.End) text text1 old new → AddsLast 262144 growth (length text) text1 text2 → DividesOn {E = E} (Ok growth) text text2 old new
+taken_end E growth text text1 text2 old new taken adds = end_grows E growth text text1 text2 taken.0 old new taken.1 taken.2.0 taken.2.1 taken.2.2 adds
 
 taken_err : (E : Type 0) (e : E) (text text1 old new : List ℕ) → TakesLine (Err e) text text1 old new → StopsDividing old new
 taken_err E e text text1 old new taken = (taken.0, taken.2.1, behind_last taken.0 taken.2.0)
@@ -194,7 +194,7 @@ is_end E part.End feed full more = refl
 
 -- the same, where it is told
 
-pub told_feed : (E : Type 0) (result : Result Step E) (text text1 text2 : List ℕ) (start : ℕ) (a b : Option (List ℕ)) → start ≡ length text → WhereTold (TakesLine {E = E} (Ok part.Feed) text text1) a b → AddsLine 262144 result start text1 text2 → WhereTold (DividesOn result text text2) a b
+pub told_feed : (E : Type 0) (result : Result Growth E) (text text1 text2 : List ℕ) (start : ℕ) (a b : Option (List ℕ)) → start ≡ length text → WhereTold (TakesLine {E = E} (Ok part.Feed) text text1) a b → AddsLine 262144 result start text1 text2 → WhereTold (DividesOn result text text2) a b
 told_feed E result text text1 text2 start a b from taken adds =
     let P : ℕ → Type 0 = λ n. AddsLine 262144 result n text1 text2 in
     told_map (TakesLine {E = E} (Ok part.Feed) text text1) (DividesOn result text text2) a b taken (λ old new line. taken_feed E result text text1 text2 old new line (subst P from adds))
@@ -202,12 +202,12 @@ told_feed E result text text1 text2 start a b from taken adds =
 pub told_full : (E : Type 0) (text text1 : List ℕ) (a b : Option (List ℕ)) → length text ≤ 262144 → length text1 ≡ 262148 → WhereTold (TakesLine {E = E} (Ok part.Full) text text1) a b → WhereTold (DividesOn {E = E} (Ok Longer) text text1) a b
 told_full E text text1 a b within full taken = told_map (TakesLine {E = E} (Ok part.Full) text text1) (DividesOn {E = E} (Ok Longer) text text1) a b taken (λ old new line. taken_full E text text1 old new within full line)
 
-pub told_end : (E : Type 0) (p : Part) (step : Step) (text text1 text2 : List ℕ) (start : ℕ) (a b : Option (List ℕ)) → (p ≡ part.Feed → ⊥) → (p ≡ part.Full → ⊥) → ◌≢◌ {A = Result Part E} (Ok p) (Ok part.More) → start ≡ length text
-    → WhereTold (TakesLine {E = E} (Ok p) text text1) a b → AddsLast 262144 step start text1 text2 → WhereTold (DividesOn {E = E} (Ok step) text text2) a b
-told_end E p step text text1 text2 start a b feed full more from taken adds =
-    let P : ℕ → Type 0 = λ n. AddsLast 262144 step n text1 text2 in
+pub told_end : (E : Type 0) (p : Part) (growth : Growth) (text text1 text2 : List ℕ) (start : ℕ) (a b : Option (List ℕ)) → (p ≡ part.Feed → ⊥) → (p ≡ part.Full → ⊥) → ◌≢◌ {A = Result Part E} (Ok p) (Ok part.More) → start ≡ length text
+    → WhereTold (TakesLine {E = E} (Ok p) text text1) a b → AddsLast 262144 growth start text1 text2 → WhereTold (DividesOn {E = E} (Ok growth) text text2) a b
+told_end E p growth text text1 text2 start a b feed full more from taken adds =
+    let P : ℕ → Type 0 = λ n. AddsLast 262144 growth n text1 text2 in
     let Q : Part → Type 0 = λ x. WhereTold (TakesLine {E = E} (Ok x) text text1) a b in
-    told_map (TakesLine {E = E} (Ok part.End) text text1) (DividesOn {E = E} (Ok step) text text2) a b (subst Q (is_end E p feed full more) taken) (λ old new line. taken_end E step text text1 text2 old new line (subst P from adds))
+    told_map (TakesLine {E = E} (Ok part.End) text text1) (DividesOn {E = E} (Ok growth) text text2) a b (subst Q (is_end E p feed full more) taken) (λ old new line. taken_end E growth text text1 text2 old new line (subst P from adds))
 
 pub told_stop : (E F : Type 0) (e : E) (f : F) (text text1 : List ℕ) (a b : Option (List ℕ)) → WhereTold (TakesLine (Err e) text text1) a b → WhereTold (DividesOn (Err f) text text1) a b
 told_stop E F e f text text1 a b taken = told_map (TakesLine (Err e) text text1) (DividesOn (Err f) text text1) a b taken (λ old new line. taken_err E e text text1 old new line)
@@ -271,5 +271,5 @@ told_start a text none =
     let P : List ℕ → Type 0 = λ l. WhereTold (IsDividing l) a a in
     subst P (sym none) (told_refl (IsDividing []) a (λ x. (refl, λ tail. (refl, refl))))
 
-pub line_is_short : (step : Step) → step ≡ Line → step ≢ Longer
-line_is_short step line = λ longer. cc
+pub line_is_short : (growth : Growth) → growth ≡ Line → growth ≢ Longer
+line_is_short growth line = λ longer. cc

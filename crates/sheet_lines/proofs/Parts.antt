@@ -48,7 +48,7 @@ pub told_part : (E : Type 0) (result : Result Part E) (kept kept' kept'' : List 
 told_part E result kept kept' kept'' first next last before part =
     told_then (IsSoFar kept kept') (ReadsPart result kept' kept'') (TakesLine result kept kept'') first next last before part (part_more E result kept kept' kept'')
 
--- how many bytes are used and how many are left, after two steps
+-- how many bytes are used and how many are left, after two reads
 pub told_counts : (u0 u1 u2 : ℕ) (first next last : Option (List ℕ)) → WhereTold {A = List ℕ} {B = List ℕ} (λ old new. u1 + length new ≡ u0 + length old) first next
     → WhereTold {A = List ℕ} {B = List ℕ} (λ old new. u2 + length new ≡ u1 + length old) next last → WhereTold {A = List ℕ} {B = List ℕ} (λ old new. u2 + length new ≡ u0 + length old) first last
 told_counts u0 u1 u2 first next last one two =

@@ -41,3 +41,7 @@ unless_empty (c ∷ cs) = (c ∷ cs) ∷ []
 abbrev pub all_said : List (List ℕ) → List (List ℕ)
 all_said [] = []
 all_said (line ∷ more) = unless_empty (said line) ++ all_said more
+
+-- a text as a printed line
+abbrev pub printed : List ℕ → List ℕ
+printed text = text ++ 10 ∷ []

@@ -25,7 +25,7 @@ const MOST: usize = LONGEST_DEFINITION + 4;
 /// is longer than `LONGEST_DEFINITION`; then no more of it is used than shows it.
 ///
 /// Behind it the reader goes on with the line after `%%`. A carriage return before the line feed of `%%` is passed over.
-pub fn read_definition<S: Source>(
+pub fn read_to_divider<S: Source>(
     alloc: Global,
     reader: &mut LineReader,
     input: &mut S,
@@ -44,16 +44,16 @@ pub fn read_definition<S: Source>(
     let mut text = Vec::new(alloc);
     'lines: loop {
         match definition_line(reader, input, &mut text)? {
-            Step::Line => {}
-            Step::Divided => return Ok(Some(text)),
-            Step::Longer => return Ok(None),
+            Growth::Line => {}
+            Growth::Divided => return Ok(Some(text)),
+            Growth::Longer => return Ok(None),
         }
     }
 }
 
 /// What one more line did to a definition.
 #[derive(Clone, Copy, Debug, PartialEq, Eq)]
-pub enum Step {
+pub enum Growth {
     /// It belongs to the definition.
     Line,
     /// The definition ends.
@@ -67,13 +67,13 @@ fn definition_line<S: Source>(
     reader: &mut LineReader,
     input: &mut S,
     text: &mut Vec<u8>,
-) -> Result<Step, ReadStop>
+) -> Result<Growth, ReadStop>
     requires { vec_len text.old ≤ LONGEST_DEFINITION }
-    ensures step { WhereTold (DividesOn result text.old.items text.new.items) (rest reader.old (S.left input.old)) (rest reader.new (S.left input.new)) }
+    ensures growth { WhereTold (DividesOn result text.old.items text.new.items) (rest reader.old (S.left input.old)) (rest reader.new (S.left input.new)) }
     ensures counts { WhereTold (λ old new. reader.new.used + length new ≡ reader.old.used + length old) (rest reader.old (S.left input.old)) (rest reader.new (S.left input.new)) }
-    ensures within { IfOk result (λ step. step ≢ Step.Longer → vec_len text.new ≤ LONGEST_DEFINITION) }
-    ensures uses { IfOk result (λ step. step ≡ Step.Line → reader.old.used < reader.new.used) }
-    ensures line { IfOk result (λ step. step ≡ Step.Line → reader.new.used + vec_len text.old ≡ reader.old.used + vec_len text.new) }
+    ensures within { IfOk result (λ growth. growth ≢ Growth.Longer → vec_len text.new ≤ LONGEST_DEFINITION) }
+    ensures uses { IfOk result (λ growth. growth ≡ Growth.Line → reader.old.used < reader.new.used) }
+    ensures line { IfOk result (λ growth. growth ≡ Growth.Line → reader.new.used + vec_len text.old ≡ reader.old.used + vec_len text.new) }
     ensures limit { reader.new.used ≤ 2 ^ 40 }
     ensures too_long { IsErrOf result ReadStop.TooLong → 2 ^ 40 + vec_len text.old ≤ reader.old.used + LONGEST_DEFINITION + 5 }
     ensures dry { IsErrOf result ReadStop.Source → reader.new.ahead ≡ [] }
@@ -87,26 +87,26 @@ fn definition_line<S: Source>(
     };
     match part {
         Part::Feed => add_line(text, start),
-        Part::Full => Ok(Step::Longer),
+        Part::Full => Ok(Growth::Longer),
         _ => Ok(add_last(text, start)),
     }
 }
 
 // The line from there on, which a line feed ended, belongs to the definition, or ends it.
-fn add_line(text: &mut Vec<u8>, start: usize) -> Result<Step, ReadStop>
+fn add_line(text: &mut Vec<u8>, start: usize) -> Result<Growth, ReadStop>
     requires { start ≤ vec_len text.old }
     ensures adds { AddsLine LONGEST_DEFINITION result start text.old.items text.new.items }
     ensures memory { IfErr result (λ stop. stop ≡ ReadStop.NoMemory) }
 {
     if is_divider(text.as_slice(), start) {
         text.truncate(start);
-        return Ok(Step::Divided);
+        return Ok(Growth::Divided);
     }
     if text.len() >= LONGEST_DEFINITION {
-        return Ok(Step::Longer);
+        return Ok(Growth::Longer);
     }
     text.push(b'\n')?;
-    Ok(Step::Line)
+    Ok(Growth::Line)
 }
 
 // Whether the line from there on, which a line feed ended, is the divider.
@@ -119,17 +119,17 @@ fn is_divider(text: &[u8], start: usize) -> bool
 }
 
 // The line from there on, which the input's end ended, belongs to the definition, or is the divider.
-fn add_last(text: &mut Vec<u8>, start: usize) -> Step
+fn add_last(text: &mut Vec<u8>, start: usize) -> Growth
     requires { start ≤ vec_len text.old }
     ensures { AddsLast LONGEST_DEFINITION result start text.old.items text.new.items }
 {
     let (_, line) = text.as_slice().split_at(start);
     if line == DIVIDER {
         text.truncate(start);
-        return Step::Divided;
+        return Growth::Divided;
     }
     if text.len() > LONGEST_DEFINITION {
-        return Step::Longer;
+        return Growth::Longer;
     }
-    Step::Divided
+    Growth::Divided
 }
