@@ -49,6 +49,7 @@ impl Buffer {
     }
 
     /// The bytes that are held.
+    #[inline]
     pub fn bytes(&self) -> &[u8]
         ensures bytes { result.now ≡ self.now }
         ensures room { length result.now ≤ room }
@@ -57,6 +58,7 @@ impl Buffer {
     }
 
     /// How many more bytes there is room for.
+    #[inline]
     fn left(&self) -> usize
         ensures { result ≡ room - length self.now }
     {
@@ -64,6 +66,7 @@ impl Buffer {
     }
 
     /// Adds as much of the piece as there is room for, and answers how much.
+    #[inline]
     pub fn push(&mut self, piece: &[u8]) -> usize
         ensures count { result ≡ min (length piece.now) (room - length self.old) }
         ensures bytes { self.new ≡ self.old ++ take result piece.now }

@@ -1,9 +1,10 @@
 // The bytes of a connection, and the steps that they hold.
-ghost use Rattle.std.specs.Prelude.{◌≡◌, ◌≤◌, ◌+◌, ◌-◌, ◌++◌, [], List, ℕ, length, take, drop, min, slice_range, IfOk, OnErr, Some, None, IsUtf8, true};
+ghost use Rattle.std.specs.Prelude.{◌≡◌, ◌≤◌, ◌+◌, ◌-◌, ◌++◌, [], List, ℕ, length, take, drop, min, slice_range, IfOk, OnErr, Some, None, IsTrue, true, ◌<◌};
 ghost use Rattle.httparse.specs.Grammar.{RequestHead};
 ghost use Rattle.httparse.specs.Spans.{IsRequestAt, IsRequestWithin};
 ghost use Rattle.sheet_http.specs.Heads.{route_from, is_route_name, has_name, shifted};
 ghost use Rattle.sheet_http.specs.Knowing.{IsDemanded, Knows, Settles};
+ghost use Rattle.sheet_http.specs.Stream.{HasNoStep};
 ghost use Rattle.sheet_http.specs.Steps.{Gives, Tells, places_of, room};
 
 use crate::buffer::Buffer;
@@ -109,6 +110,18 @@ fn placed(demand: Demand, start: usize) -> Demand
     Demand { name, ..demand }
 }
 
+// Whether a whole head is known whose body isn't there yet.
+#[inline]
+fn is_waiting(known: &Known, held: &[u8]) -> bool
+    requires { Knows held.now known.now }
+    ensures { IsTrue result → HasNoStep held.now × (length held.now < room) }
+{
+    match known {
+        Known::Asked(demand, from) if held.len() - from < demand.length => true,
+        _ => false,
+    }
+}
+
 // What is known of the bytes once the lines that aren't judged yet are.
 fn look(known: Known, routes: &Routes, held: &[u8], fields: &mut [HeaderSpan]) -> Known
     requires knows { Knows held.now known }
@@ -211,6 +224,7 @@ impl Feed {
     }
 
     /// Takes as much of the piece as there is room for, and answers how much.
+    #[inline]
     pub fn feed(&mut self, piece: &[u8]) -> usize
         ensures count { result ≡ min (length piece.now) (room - length self.old.bytes) }
         ensures bytes { self.new.bytes ≡ self.old.bytes ++ take result piece.now }
@@ -220,12 +234,16 @@ impl Feed {
     }
 
     /// What the bytes that are held begin with: the same until `feed` or `done`.
+    #[inline]
     pub fn next(&mut self) -> Result<Step, NoMemory>
         ensures step { IfOk result (λ step. Gives self.old.bytes self.new.told step) }
         ensures bytes { self.new.bytes ≡ self.old.bytes }
         ensures none { OnErr result (self.new.told ≡ None) }
     {
         self.told = None;
+        if is_waiting(&self.known, self.held.bytes()) {
+            return Ok(Step::More);
+        }
         self.known = look(
             self.known,
             &self.routes,
