@@ -11,7 +11,7 @@ use Rattle.sheet_meaning.specs.Run.{Outcome, none, is_none, given, done, after, 
 use Rattle.sheet_meaning.specs.Formula.{Variables, run}
 use Rattle.sheet_meaning.specs.Workbook.{world}
 use Rattle.sheet_meaning.proofs.Members.{Within, within_itself, nothing_within, within_append}
-use Rattle.sheet_meaning.proofs.Relation.{IsKept, HoldsAtReads, related}
+use Rattle.sheet_meaning.proofs.Relation.{IsKept, HoldsAtReads, behind_fault, second_part, as_part, related}
 use Rattle.sheet_meaning.specs.declared.run.Run.{Run}
 use Rattle.sheet_meaning.specs.declared.workbook.Workbook.{Workbook}
 
@@ -81,8 +81,9 @@ module _ {A B : Type 0} where
 
 after_fault : (e : Fault) (q t : Run Bool) → RunBelow Bool q t → RunBelow Bool (second_after_fault e q) (second_after_fault e t)
 after_fault e q t h =
-    chosen (given (Err e)) (given (Err e)) (finish (both (given (Err e)) q) _) (finish (both (given (Err e)) t) _) (same _)
-    (finishes _ _ _ (boths (given (Err e)) (given (Err e)) q t (same {A = Bool} (given (Err e))) h)) (is_none e)
+    let parts = finishes (λ (x : Bool × Bool). Ok x.1) _ _ (boths (given (Err e)) (given (Err e)) q t (same {A = Bool} (given (Err e))) h) in
+    let one_side = subst (λ r. RunBelow Bool r (second_part e t)) (as_part e q) parts in
+    chosen (given (Err e)) (given (Err e)) (behind_fault e q) (behind_fault e t) (same _) (subst (λ r. RunBelow Bool (behind_fault e q) r) (as_part e t) one_side) (is_none e)
 
 same_second : (c : Connective) (q t : Run Bool) → RunBelow Bool q t → (o : Outcome Bool) → RunBelow Bool (second_truth c o q) (second_truth c o t)
 same_second c q t h (Ok a) = chosen (done a) (done a) q t (same (done a)) h (decides c a)

@@ -9,5 +9,7 @@ pub mod FormulaCells
 pub mod Ordered
 pub mod Alike
 pub mod Pages
+pub mod Columns
+pub mod Starting
 pub mod Examples
 pub mod Club

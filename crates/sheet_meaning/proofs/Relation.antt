@@ -1,7 +1,7 @@
 -- What holds between an expression's evaluations in two worlds: a relation that the steps of an evaluation keep, and that holds where
 -- the worlds are read, holds between the evaluations of every expression.
-use Rattle.std.proofs.Common.{ℕ, Bool, true, false, List, [], ◌∷◌}
-use Rattle.std.specs.Prelude.{map, ◌+ℤ◌, pos, ◌||◌, ◌&&◌, Ok, slice_index_or, if◌then◌else◌}
+use Rattle.std.proofs.Common.{◌≡◌, refl, ap, ℕ, Bool, true, false, List, [], ◌∷◌}
+use Rattle.std.specs.Prelude.{map, ◌+ℤ◌, pos, ◌||◌, ◌&&◌, Ok, Err, slice_index_or, if◌then◌else◌}
 use Rattle.sheet_values.specs.Sets.{union}
 use Rattle.sheet_values.specs.declared.value.Value.{Value}
 use Rattle.sheet_values.specs.declared.value.Value.TheVariants as value
@@ -10,7 +10,9 @@ use Rattle.sheet_columns.specs.declared.formula.Connective.{Connective}
 use Rattle.sheet_columns.specs.declared.formula.Quantifier.{Quantifier}
 use Rattle.sheet_columns.specs.declared.formula.Quantifier.TheVariants.{Any, All}
 use Rattle.sheet_columns.specs.declared.formula.Core.{Core, Truth, Number, Text, Root, Variable, ObjectStep', StateStep', FormulaStep', Up', Set', Combine', Compare', Order', Arithmetic', Negate', Join', Not', Connect', If', Count', Only', Extreme', Comprehension', Sum', Quantify', Row_of-Core, end_of-Core as end, more_of-Core as more}
-use Rattle.sheet_meaning.specs.Run.{Outcome, given, done, finish, and_then, both, all, connect}
+use Rattle.sheet_columns.specs.declared.fault.Fault.{Fault}
+use Rattle.sheet_columns.specs.declared.fault.Fault.TheVariants as fault
+use Rattle.sheet_meaning.specs.Run.{Outcome, given, done, after, finish, and_then, both_outcomes, both, all, left_fault, connect}
 use Rattle.sheet_meaning.specs.Formula.{World, Variables, run, run_each, step, bind, turn, quantified, gathered, single, on_object, extent_of, stored_of, worked_of, parent_of, variable_read}
 use Rattle.sheet_meaning.specs.declared.run.Run.{Run}
 
@@ -21,6 +23,25 @@ pub record IsKept (R : (A : Type 0) → Run A → Run A → Type 0) : Type 1 whe
   pub follows : {A B : Type 0} (f g : A → Run B) (r s : Run A) → R _ r s → ((a : A) → R _ (f a) (g a)) → R _ (and_then r f) (and_then s g)
   pub boths : {A B : Type 0} (r s : Run A) (q t : Run B) → R _ r s → R _ q t → R _ (both r q) (both s t)
   pub connects : (c : Connective) (r s q t : Run Bool) → R _ r s → R _ q t → R _ (connect c r q) (connect c s t)
+
+-- a part behind one with a fault
+abbrev pub behind_fault : Fault → Run Bool → Run Bool
+behind_fault e b = record { outcome = left_fault e b.outcome; uses = b.uses }
+
+-- is the second of two parts
+abbrev pub second_part : Fault → Run Bool → Run Bool
+second_part e b = finish (both (given {A = Bool} (Err e)) b) (λ (x : Bool × Bool). Ok x.1)
+
+pub as_part : (e : Fault) (b : Run Bool) → second_part e b ≡ behind_fault e b
+as_part e b = ap (λ o. record { outcome = o; uses = b.uses }) (same b.outcome)
+  where
+    same : (o : Outcome Bool) → after (both_outcomes {A = Bool} (Err e) o) (λ (x : Bool × Bool). Ok x.1) ≡ left_fault e o
+    same (Ok a) = refl
+    same (Err fault.Cycle) = refl
+    same (Err (fault.NotOne how p)) = refl
+    same (Err (fault.Overflow p)) = refl
+    same (Err (fault.ZeroDivisor p)) = refl
+    same (Err (fault.TextTooLong p)) = refl
 
 -- the relation holds where the worlds are read
 pub record HoldsAtReads (R : (A : Type 0) → Run A → Run A → Type 0) (w u : World) : Type 0 where

@@ -1,5 +1,5 @@
 -- An evaluation depends on nothing but what it uses.
-use Rattle.std.proofs.Common.{◌≡◌, refl, sym, ap, ◌∙◌, Bool, true, false, List, [], ◌∷◌, ◌++◌}
+use Rattle.std.proofs.Common.{◌≡◌, refl, sym, ap, ◌∙◌, subst, Bool, true, false, List, [], ◌∷◌, ◌++◌}
 use Rattle.std.specs.Prelude.{filter, cond, Ok, Err, if◌then◌else◌}
 use Rattle.sheet_values.specs.declared.value.Value.{Value}
 use Rattle.sheet_values.specs.declared.value.Value.TheVariants as value
@@ -11,7 +11,7 @@ use Rattle.sheet_meaning.specs.declared.run.Use.TheVariants.{Read, Cell}
 use Rattle.sheet_meaning.specs.Run.{Outcome, is_none, given, done, run_after, finish, and_then, both, decides, second_after_fault, second_truth, connect}
 use Rattle.sheet_meaning.specs.Formula.{World, objects_of, is_read, live_reads}
 use Rattle.sheet_meaning.specs.Reads.{Agree, UsesSuffice}
-use Rattle.sheet_meaning.proofs.Relation.{IsKept, HoldsAtReads, related}
+use Rattle.sheet_meaning.proofs.Relation.{IsKept, HoldsAtReads, behind_fault, second_part, as_part, related}
 use Rattle.sheet_meaning.specs.declared.run.Run.{Run}
 
 module _ (w u : World) where
@@ -56,8 +56,9 @@ module _ (w u : World) where
 
   after_fault : (e : Fault) (q t : Run Bool) → Tracks Bool q t → Tracks Bool (second_after_fault e q) (second_after_fault e t)
   after_fault e q t h =
-      chosen (given (Err e)) (given (Err e)) (finish (both (given (Err e)) q) _) (finish (both (given (Err e)) t) _) (same _)
-      (finishes _ _ _ (boths (given (Err e)) (given (Err e)) q t (same {A = Bool} (given (Err e))) h)) (is_none e)
+      let parts = finishes (λ (x : Bool × Bool). Ok x.1) _ _ (boths (given (Err e)) (given (Err e)) q t (same {A = Bool} (given (Err e))) h) in
+      let one_side = subst (λ r. Tracks Bool r (second_part e t)) (as_part e q) parts in
+      chosen (given (Err e)) (given (Err e)) (behind_fault e q) (behind_fault e t) (same _) (subst (λ r. Tracks Bool (behind_fault e q) r) (as_part e t) one_side) (is_none e)
 
   second_tracks : (c : Connective) (q t : Run Bool) → Tracks Bool q t → (o : Outcome Bool) → Tracks Bool (second_truth c o q) (second_truth c o t)
   second_tracks c q t h (Ok a) = chosen (done a) (done a) q t (same (done a)) h (decides c a)

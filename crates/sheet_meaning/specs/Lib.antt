@@ -5,9 +5,13 @@ pub mod Rounds
 pub mod Reads
 pub mod Items
 pub mod Support
+pub mod Told
 pub mod WellFormed
+pub mod Arguments
 pub mod Kept
+pub mod Cost
 pub mod Changes
 pub mod Statements
+pub mod Start
 pub mod Procedure
 pub mod Page

@@ -1,5 +1,5 @@
 -- The page of a view, for a caller and arguments, and what it rests on.
-use Rattle.std.specs.Prelude.{◌≡◌, ◌++◌, true, ℕ, Bool, if◌then◌else◌, List, [], map, Result, Ok, Err}
+use Rattle.std.specs.Prelude.{◌≡◌, ◌++◌, true, ℕ, ◌+◌, Bool, if◌then◌else◌, List, [], ◌∷◌, map, sum_by, Result, Ok, Err}
 use Rattle.std.specs.List.{flat_map, filter_map}
 use Rattle.sheet_values.specs.declared.value.Value.{Value}
 use Rattle.sheet_values.specs.Sorted.{contains}
@@ -25,6 +25,7 @@ use Rattle.sheet_meaning.specs.Rounds.{settled_run}
 use Rattle.sheet_meaning.specs.Items.{content}
 use Rattle.sheet_meaning.specs.Support.{Cell, support}
 use Rattle.sheet_meaning.specs.Kept.{kept_with}
+use Rattle.sheet_meaning.specs.Cost.{own_part, cost_of_all}
 use Rattle.sheet_meaning.specs.Procedure.{first_variables}
 use Rattle.sheet_meaning.specs.declared.run.Run.{Run}
 use Rattle.sheet_meaning.specs.declared.workbook.Workbook.{Workbook}
@@ -84,6 +85,30 @@ abbrev pub view_uses : Workbook → Core → List CoreView → Caller → List V
 view_uses w allow views caller arguments =
     let v = first_variables caller arguments in
     (allow_run w allow v).uses ++ (flat_map (part_uses w v) views ++ argument_uses arguments)
+
+-- what each expression of a row, and of a part, uses: in the order in which they are worked out
+abbrev pub row_evaluations : Workbook → Variables → List CoreSlot → Value → List (List Use)
+row_evaluations w v slots x = map (λ slot. (slot_run w (bind v x) slot).uses) slots
+
+abbrev pub part_evaluations : Workbook → Variables → CoreView → List (List Use)
+part_evaluations w v (view.Show slot) = (slot_run w v slot).uses ∷ []
+part_evaluations w v (view.Table n name source slots) =
+    let r = source_run w v n source in
+    r.uses ∷ flat_map (row_evaluations w v slots) (values_of r.outcome)
+
+-- what each expression of a view uses
+abbrev pub view_evaluations : Workbook → Core → List CoreView → Caller → List Value → List (List Use)
+view_evaluations w allow views caller arguments =
+    let v = first_variables caller arguments in
+    (allow_run w allow v).uses ∷ flat_map (part_evaluations w v) views
+
+-- the cost of a page; of a support, the own parts of the expressions count twice
+abbrev pub page_cost : Workbook → Core → List CoreView → Caller → List Value → List Cell → ℕ
+page_cost w allow views caller arguments kept = cost_of_all w kept (view_evaluations w allow views caller arguments)
+
+abbrev pub support_cost : Workbook → Core → List CoreView → Caller → List Value → List Cell → ℕ
+support_cost w allow views caller arguments kept =
+    page_cost w allow views caller arguments kept + sum_by own_part (view_evaluations w allow views caller arguments)
 
 -- the support of a view
 abbrev pub view_support : Workbook → Core → List CoreView → Caller → List Value → List Item

@@ -11,7 +11,7 @@ use Rattle.sheet_meaning.specs.Formula.{Variables, objects_of, truth}
 use Rattle.sheet_meaning.specs.Workbook.{set_in}
 use Rattle.sheet_meaning.specs.WellFormed.{unfilled}
 use Rattle.sheet_meaning.specs.Support.{Cell}
-use Rattle.sheet_meaning.specs.Statements.{Point, workbook, next, from_run, formula, run_statements}
+use Rattle.sheet_meaning.specs.Statements.{Point, Course, workbook, still, course_next, course_from, course_statements, formula}
 use Rattle.sheet_meaning.specs.declared.workbook.Schema.{Schema}
 use Rattle.sheet_meaning.specs.declared.workbook.State.{State}
 use Rattle.sheet_meaning.specs.declared.workbook.Caller.{Caller}
@@ -20,9 +20,15 @@ use Rattle.sheet_meaning.specs.declared.workbook.Caller.{Caller}
 abbrev pub first_variables : Caller → List Value → Variables
 first_variables caller arguments = objects_of caller.object ∷ (Truth caller.operator ∷ []) ∷ map (λ a. a ∷ []) arguments
 
+-- where a run begins
+abbrev pub beginning : Caller → List Value → State → List Cell → Point
+beginning caller arguments state kept = record { state = state; variables = first_variables caller arguments; reply = []; kept = kept }
+
 -- the `allow` formula must be one; false refuses
-abbrev pub admit : Schema → Core → Point → Result Point Refusal
-admit s allow p = from_run s (truth (place.Statement 0) (formula s p 0 allow)) p (λ holds q. if holds then Ok q else Err Denied)
+abbrev pub course_of_allow : Schema → Core → Point → Course
+course_of_allow s allow p =
+    let r = truth (place.Statement 0) (formula s p 0 allow) in
+    course_from s (r.uses ∷ []) r p (λ holds q. still q (if holds then Ok q else Err Denied))
 
 -- every cell that must hold exactly one value does; the first that doesn't is a refusal
 abbrev pub refuse_unfilled : Point → Option (ℕ × ℕ) → Result Point Refusal
@@ -33,7 +39,13 @@ abbrev pub test_filled : Schema → Point → Result Point Refusal
 test_filled s p = refuse_unfilled p (unfilled (workbook s p.state))
 
 -- the run of a procedure from a state and kept cells: the `allow` formula, the statements, then the test of the `one` cells
+abbrev pub course_of_procedure : Schema → Core → List CoreStatement → Caller → List Value → State → List Cell → Course
+course_of_procedure s allow body caller arguments state kept =
+    course_next (course_of_allow s allow (beginning caller arguments state kept)) (λ p. course_next (course_statements body s p) (λ q. still q (test_filled s q)))
+
+-- what the `allow` formula, and the run of a procedure, end in
+abbrev pub admit : Schema → Core → Point → Result Point Refusal
+admit s allow p = (course_of_allow s allow p).end
+
 abbrev pub run_procedure : Schema → Core → List CoreStatement → Caller → List Value → State → List Cell → Result Point Refusal
-run_procedure s allow body caller arguments state kept =
-    let start : Point = record { state = state; variables = first_variables caller arguments; reply = []; kept = kept } in
-    next (admit s allow start) (λ p. next (run_statements body s p) (test_filled s))
+run_procedure s allow body caller arguments state kept = (course_of_procedure s allow body caller arguments state kept).end

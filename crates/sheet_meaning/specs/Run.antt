@@ -1,4 +1,13 @@
 -- Evaluations: what one comes to, and what it uses on the way.
+--
+-- The words that put one thing after another, each of which leaves no outcome, and a fault, as they are:
+--
+--   after      an outcome      then the outcome that its value leads to
+--   finish     an evaluation   then the outcome that its value leads to, for which nothing is used
+--   run_after  an outcome      then the evaluation that its value leads to, and its uses
+--   and_then   an evaluation   then the evaluation that its value leads to, and the uses of both
+--
+-- Parts that stand beside one another, all of which are evaluated, are put together by `both` and `all`.
 use Rattle.std.specs.Prelude.{Bool, true, false, not, if◌then◌else◌, List, [], ◌∷◌, ◌++◌, Result, Ok, Err}
 use Rattle.sheet_values.specs.declared.value.NotOne.TheVariants.{Zero, Many}
 use Rattle.sheet_columns.specs.declared.fault.Fault.{Fault}
@@ -73,9 +82,16 @@ abbrev pub decides : Connective → Bool → Bool
 decides And a = not a
 decides Or a = a
 
--- the second of two truths, where the first one has a fault, or none
+-- a left part with a fault, in three cases: the right part has a value, and the fault stays; it has no outcome, and there is none; it has
+-- a fault, and that of the left part stays
+abbrev pub left_fault : {A B : Type 0} → Fault → Outcome A → Outcome B
+left_fault e (Ok a) = Err e
+left_fault e (Err fault.Cycle) = none
+left_fault e (Err f) = Err e
+
+-- the second of two truths, where the first one has a fault; it is skipped where the first one has no outcome
 abbrev pub second_after_fault : Fault → Run Bool → Run Bool
-second_after_fault e b = if is_none e then given (Err e) else finish (both (given (Err e)) b) (λ (x : Bool × Bool). Ok x.1)
+second_after_fault e b = if is_none e then given (Err e) else record { outcome = left_fault e b.outcome; uses = b.uses }
 
 -- the second of two truths, which is skipped where the first one has no outcome or decides; otherwise both are parts
 abbrev pub second_truth : Connective → Outcome Bool → Run Bool → Run Bool

@@ -15,6 +15,10 @@ use Rattle.sheet_meaning.specs.Workbook.{FormulaCell, formula_cells}
 use Rattle.sheet_meaning.specs.Rounds.{run_cell, settled_world, settled_run, rounds, item_in, cell_in}
 use Rattle.sheet_meaning.specs.declared.workbook.Workbook.{Workbook}
 
+-- the formula cells that are used, in the order of first use
+abbrev pub used_cells : List Use → List Cell
+used_cells us = with_cells [] (filter_map cell_in us)
+
 -- the formula cell of an object and a column
 abbrev pub cell_at : List FormulaCell → Cell → Option FormulaCell
 cell_at [] x = None

@@ -1,4 +1,4 @@
--- What a workbook keeps: its well-formedness, and that its `one` cells are filled.
+-- What a well-formed workbook is, and that its `one` cells are filled.
 use Rattle.std.specs.Prelude.{◌≡◌, ℕ, ◌+◌, ◌<◌, ◌≤◌, ◌==◌, not, Bool, if◌then◌else◌, List, length, map, filter, find, sum_by, Option, Some, None}
 use Rattle.std.specs.List.{filter_map, flat_map, enumerate_from, AllByRecursion}
 use Rattle.std.specs.Ordering.{nat_cmp, on}
@@ -13,6 +13,7 @@ use Rattle.sheet_columns.specs.declared.tree.Column.TheVariants as column
 use Rattle.sheet_columns.specs.declared.tree.Node.{Node}
 use Rattle.sheet_columns.specs.Tree.{column_of, above_of, is_number}
 use Rattle.sheet_meaning.specs.Workbook.{object_at, column_in, set_in, formula_cells}
+use Rattle.sheet_meaning.specs.declared.workbook.ColumnFormula.{ColumnFormula}
 use Rattle.sheet_meaning.specs.declared.workbook.Schema.{Schema}
 use Rattle.sheet_meaning.specs.declared.workbook.LiveObject.{LiveObject}
 use Rattle.sheet_meaning.specs.declared.workbook.StoredCell.{StoredCell}
@@ -35,6 +36,23 @@ as_state k (column.Formula kind) = None
 abbrev pub state_columns : Schema → ℕ → List StateColumn
 state_columns s c =
     filter_map (λ (x : ℕ × Node). if is_number c x.1.above then as_state x.0 x.1.column else None) (enumerate_from 0 s.columns)
+
+abbrev pub as_formula : ℕ → Column → Option ℕ
+as_formula k column.Object = None
+as_formula k (column.State kind one first) = None
+as_formula k (column.Formula kind) = Some k
+
+-- the numbers of all formula columns, in order
+abbrev pub all_formula_columns : List Node → List ℕ
+all_formula_columns nodes = filter_map (λ (x : ℕ × Node). as_formula x.0 x.1.column) (enumerate_from 0 nodes)
+
+-- the columns of the formulas, in order
+abbrev pub formula_numbers : Schema → List ℕ
+formula_numbers s = map (λ (f : ColumnFormula). f.column) s.formulas
+
+-- there is one formula for each formula column, in order, and nothing else
+abbrev pub HasFormulas : Schema → Type 0
+HasFormulas s = formula_numbers s ≡ all_formula_columns s.columns
 
 -- the state cells that there are, by object and column: those of each live object
 abbrev pub state_cells : Workbook → List (ℕ × ℕ)
@@ -95,6 +113,7 @@ abbrev pub max_number : ℕ
 max_number = 1000000000000
 
 pub record IsWellFormed (w : Workbook) : Type 0 where
+  pub formulas : HasFormulas w.schema
   -- the root is live, and has the number 0
   pub root : object_at w.state.objects 0 ≡ Some (record { number = 0; column = 0; parent = None })
   -- objects are listed by number, without doubles

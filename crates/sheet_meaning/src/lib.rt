@@ -4,6 +4,7 @@
 ghost use Rattle.sheet_meaning.specs.Page.{SupportSuffices};
 ghost use Rattle.sheet_meaning.specs.Reads.{UsesSuffice};
 ghost use Rattle.sheet_meaning.specs.Rounds.{RoundsEnd, CyclesAreFinal};
+ghost use Rattle.sheet_meaning.specs.Start.{StartsAreWellFormed, StartsAreFilled};
 ghost use Rattle.sheet_meaning.specs.Support.{ReachedIsAll};
 
 mod refusal;
@@ -41,4 +42,14 @@ pub fn reached_is_all()
 /// same page to the same caller and arguments.
 pub fn support_suffices()
     ensures { SupportSuffices }
+{}
+
+/// The workbook at the start is well formed.
+pub fn starts_are_well_formed()
+    ensures { StartsAreWellFormed }
+{}
+
+/// It is filled where the columns under the root that must hold one value have their first values.
+pub fn starts_are_filled()
+    ensures { StartsAreFilled }
 {}
