@@ -1,6 +1,6 @@
 // Evaluations put together from those of their parts.
-ghost use Rattle.std.specs.Prelude.{◌≡◌, ◌++◌, ◌∷◌, [], ℤ, pos, ◌+ℤ◌, IfOk, if◌then◌else◌};
-ghost use Rattle.sheet_meaning.specs.Run.{is_none as stands_for_none, given, outranked, both_outcomes, both, finish, after, the_one, decides, second_after_fault, second_truth, connect, and_then};
+ghost use Rattle.std.specs.Prelude.{◌≡◌, ◌++◌, ◌∷◌, [], Bool, ℤ, pos, ◌+ℤ◌, IfOk, if◌then◌else◌};
+ghost use Rattle.sheet_meaning.specs.Run.{is_none as stands_for_none, given, outranked, both_outcomes, both, finish, after, the_one, decides, left_fault, second_after_fault, second_truth, connect, and_then};
 ghost use Rattle.sheet_meaning.specs.Formula.{one, truth, number, text, object_in, single, turn};
 ghost use Rattle.std.specs.List.{filter_map};
 ghost use Rattle.plain_formulas.specs.Forms.{all_joined, for_source, followed};
@@ -231,31 +231,30 @@ fn decides(connective: Connective, truth: bool) -> bool
     }
 }
 
-fn second_of(parts: Run<(bool, bool)>) -> Run<bool>
-    ensures { result ≡ finish parts (λ x. Ok x.1) }
+// A left part's fault stays, unless the right part has no outcome.
+fn left_fault(fault: Fault, second: &Result<bool, Fault>) -> Result<bool, Fault>
+    ensures { result ≡ left_fault {A = Bool} fault second.now }
 {
-    let Run { outcome, uses } = parts;
-    match outcome {
-        Ok((_, second)) => Run {
-            outcome: Ok(second),
-            uses,
-        },
-        Err(fault) => Run {
-            outcome: Err(fault),
-            uses,
-        },
+    match second {
+        Ok(_) => Err(fault),
+        Err(Fault::Cycle) => Err(Fault::Cycle),
+        Err(
+            Fault::NotOne(_, _) | Fault::Overflow(_) | Fault::ZeroDivisor(_) | Fault::TextTooLong(_),
+        ) => Err(fault),
     }
 }
 
-fn second_after_fault(alloc: Global, fault: Fault, second: Run<bool>) -> Result<Run<bool>, NoMemory>
-    ensures { IfOk result (λ r. r ≡ second_after_fault fault second) }
+fn second_after_fault(alloc: Global, fault: Fault, second: Run<bool>) -> Run<bool>
+    ensures { result ≡ second_after_fault fault second }
 {
     if is_none(fault) {
-        return Ok(given(alloc, Err(fault)));
+        return given(alloc, Err(fault));
     }
-    let first: Run<bool> = given(alloc, Err(fault));
-    let parts = both(first, second)?;
-    Ok(second_of(parts))
+    let Run { outcome, uses } = second;
+    Run {
+        outcome: left_fault(fault, &outcome),
+        uses,
+    }
 }
 
 // The second of two truths, which isn't used where the first has no outcome or decides.
@@ -275,7 +274,7 @@ fn second_truth(
                 Ok(second)
             }
         }
-        Err(fault) => second_after_fault(alloc, fault, second),
+        Err(fault) => Ok(second_after_fault(alloc, fault, second)),
     }
 }
 

@@ -7,12 +7,12 @@ use Rattle.sheet_columns.specs.declared.statement.CoreStatement.{CoreStatement}
 use Rattle.sheet_meaning.specs.declared.run.Run.{Run}
 use Rattle.sheet_meaning.specs.declared.refusal.Refusal.{Refusal}
 use Rattle.sheet_meaning.specs.declared.workbook.Schema.{Schema}
-use Rattle.sheet_meaning.specs.Statements.{Point, next, with_value, from_run, turns, run_statement, run_statements}
+use Rattle.sheet_meaning.specs.Statements.{Point, next, with_value, from_run, keeping, run_statement, run_statements}
 use Rattle.plain_meaning.specs.declared.stop.Stop.{Stop}
 use Rattle.plain_meaning.specs.declared.stop.Stop.TheVariants.{Refused, NoMemory}
 use Rattle.plain_procedures.specs.declared.point.PlainPoint.{PlainPoint}
-use Rattle.plain_procedures.specs.Points.{as_point, Ends, keeping, GoesOn}
-use Rattle.plain_procedures.specs.Blocks.{turn}
+use Rattle.plain_procedures.specs.Points.{as_point, Ends, GoesOn}
+use Rattle.plain_procedures.specs.Blocks.{turn, turns}
 
 -- a run that ends as one definition says ends as an equal one says
 pub same_end : (r : Result PlainPoint Stop) {a b : Result Point Refusal} → a ≡ b → Ends r a → Ends r b

@@ -1,5 +1,5 @@
 -- What the statements that hold blocks come to, where a block is a list.
-use Rattle.std.proofs.Common.{◌≡◌, refl, sym, ap, ◌∙◌, ℕ, Bool, true, false, List, Ok}
+use Rattle.std.proofs.Common.{◌≡◌, refl, sym, ap, ◌∙◌, ℕ, Bool, true, false, List, [], ◌∷◌, Ok}
 use Rattle.std.specs.Prelude.{Result, if◌then◌else◌}
 use Rattle.std.proofs.Math.Path.{fun_ext}
 use Rattle.sheet_values.specs.declared.value.Value.{Value}
@@ -12,15 +12,29 @@ use Rattle.sheet_columns.specs.declared.statement.Statements.{Statements}
 use Rattle.sheet_meaning.specs.declared.refusal.Refusal.{Refusal}
 use Rattle.sheet_meaning.specs.declared.workbook.Schema.{Schema}
 use Rattle.sheet_meaning.specs.Formula.{truth}
-use Rattle.sheet_meaning.specs.Statements.{Point, next, formula, from_run, ended, turns, run_statement, run_block, run_statements}
+use Rattle.sheet_meaning.specs.Statements.{Point, Course, next, formula, from_run, ended, with_variable, is_present, still, course_ended, course_turns, course_block, run_statement, run_block, run_statements}
 use Rattle.plain_meaning.specs.declared.stop.Stop.{Stop}
 use Rattle.plain_procedures.specs.declared.point.PlainPoint.{PlainPoint}
 use Rattle.plain_procedures.specs.Points.{as_point, Ends, GoesOn}
+use Rattle.plain_procedures.specs.Blocks.{turns}
 use Rattle.plain_procedures.proofs.Going.{same_end, goes_on}
 
 block_listed : {m : _} (row : Row_of-CoreStatement m) (s : Schema) (p : Point) → run_block row s p ≡ run_statements (items-the_row-CoreStatement m row) s p
 block_listed end_of-CoreStatement s p = refl
 block_listed (more_of-CoreStatement x rest) s p = ap (next (run_statement x s p)) (fun_ext (λ q. block_listed rest s q))
+
+-- what turns and branches end in
+turns_end : (body : Point → Course) (xs : List Value) (p : Point) → (course_turns body xs p).end ≡ turns (λ q. (body q).end) xs p
+turns_end body [] p = refl
+turns_end body (x ∷ xs) p =
+    elim (is_present p.state x) as (λ b. next (if b then course_ended p (body (with_variable p (x ∷ []))) else still p (Ok p)).end (λ q. (course_turns body xs q).end) ≡ next (if b then ended p (body (with_variable p (x ∷ []))).end else Ok p) (turns (λ q. (body q).end) xs)) [
+      | true ↦ ap (next (ended p (body (with_variable p (x ∷ []))).end)) (fun_ext (λ q. turns_end body xs q))
+      | false ↦ turns_end body xs p
+    ]
+
+if_end : (b : Bool) (c d : Course) → (if b then c else d).end ≡ (if b then c.end else d.end)
+if_end true c d = refl
+if_end false c d = refl
 
 -- `if`
 abbrev branch : Schema → ℕ → Core → List CoreStatement → List CoreStatement → Point → Result Point Refusal
@@ -37,7 +51,11 @@ block_in xs s = fun_ext (λ p. block_listed (hidden-the_row-CoreStatement-0 xs) 
 run-If : (n : ℕ) (e : Core) (body otherwise : Statements) (s : Schema) (p : Point) →
     run_statement (If n e body otherwise) s p ≡ branch s n e body.list otherwise.list p
 run-If n e body otherwise s p =
-    ap
+    let r = truth (place.Statement n) (formula s p n e) in
+    let first = hidden-the_row-CoreStatement-0 body.list in
+    let second = hidden-the_row-CoreStatement-0 otherwise.list in
+    ap (from_run s r p) (fun_ext (λ holds. fun_ext (λ q. ap (ended q) (if_end holds (course_block first s q) (course_block second s q)))))
+    ∙ ap
     (λ (g : Point → Result Point Refusal). from_run s (truth (place.Statement n) (formula s p n e)) p
     (λ holds q. ended q (if holds then g q else run_block (hidden-the_row-CoreStatement-0 otherwise.list) s q)))
     (block_in body.list s)
@@ -47,7 +65,9 @@ run-If n e body otherwise s p =
     (block_in otherwise.list s)
 
 run-For : (n : ℕ) (e : Core) (body : Statements) (s : Schema) (p : Point) → run_statement (For n e body) s p ≡ repeat s n e body.list p
-run-For n e body s p = ap (λ (g : Point → Result Point Refusal). from_run s (formula s p n e) p (λ set q. turns g set q)) (block_in body.list s)
+run-For n e body s p =
+    ap (from_run s (formula s p n e) p) (fun_ext (λ set. fun_ext (λ q. turns_end (course_block (hidden-the_row-CoreStatement-0 body.list) s) set q)))
+    ∙ ap (λ (g : Point → Result Point Refusal). from_run s (formula s p n e) p (λ set q. turns g set q)) (block_in body.list s)
 
 module _ (s : Schema) (n : ℕ) (e : Core) (x : CoreStatement) (p : Point) (q : PlainPoint) (r : Result PlainPoint Stop) where
   -- an `if` whose condition holds, and one whose condition doesn't

@@ -11,7 +11,7 @@ use Rattle.sheet_meaning.specs.declared.refusal.Refusal.TheVariants.{CheckFailed
 use Rattle.sheet_meaning.specs.declared.workbook.Schema.{Schema}
 use Rattle.sheet_meaning.specs.Run.{both}
 use Rattle.sheet_meaning.specs.Formula.{object_in, truth}
-use Rattle.sheet_meaning.specs.Statements.{Point, formula, target_object, ended, from_run, with_variable, store, make, remove, answer, is_present}
+use Rattle.sheet_meaning.specs.Statements.{Point, next, formula, target_object, ended, from_run, with_variable, store, make, remove, answer, is_present}
 
 -- `let`
 abbrev pub bind : Schema → ℕ → Core → Point → Result Point Refusal
@@ -41,3 +41,8 @@ reply s n e p = from_run s (formula s p n e) p (λ set q. answer set q)
 -- a turn of `for` over a value, which is skipped where the value is an object that is no longer live
 abbrev pub turn : (Point → Result Point Refusal) → Value → Point → Result Point Refusal
 turn body x p = if is_present p.state x then ended p (body (with_variable p (x ∷ []))) else Ok p
+
+-- a turn for each value in order
+abbrev pub turns : (Point → Result Point Refusal) → List Value → Point → Result Point Refusal
+turns body [] p = Ok p
+turns body (x ∷ xs) p = next (turn body x p) (turns body xs)

@@ -42,11 +42,3 @@ cells_left ns cells =
 -- the state with a new object, and with the next number that is given
 abbrev pub made_with : Schema → State → ℕ → ℕ → ℕ → State
 made_with schema s c parent next = record (with_object schema s c parent) { next = next }
-
--- the state at the start: the root alone, with the first values of its state cells
-abbrev pub started : Schema → State
-started s = record {
-  objects = record { number = 0; column = 0; parent = None } ∷ [];
-  cells = map (λ (k : meant.StateColumn). record { object = 0; column = k.number; set = first_set k.first }) (meant.state_columns s 0);
-  next = 1;
-}

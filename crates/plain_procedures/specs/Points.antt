@@ -7,8 +7,7 @@ use Rattle.sheet_meaning.specs.declared.run.Use.{Use}
 use Rattle.sheet_meaning.specs.declared.refusal.Refusal.{Refusal}
 use Rattle.sheet_meaning.specs.declared.refusal.Refusal.TheVariants.{FormulaFault}
 use Rattle.sheet_meaning.specs.declared.workbook.Schema.{Schema}
-use Rattle.sheet_meaning.specs.Kept.{kept_with}
-use Rattle.sheet_meaning.specs.Statements.{Point, workbook}
+use Rattle.sheet_meaning.specs.Statements.{Point, keeping}
 use Rattle.sheet_columns.specs.declared.statement.Change.{Change}
 use Rattle.sheet_meaning.specs.declared.workbook.State.{State}
 use Rattle.sheet_meaning.specs.Workbook.{set_in}
@@ -26,10 +25,6 @@ abbrev pub Ends : Result PlainPoint Stop → Result Point Refusal → Type 0
 Ends (Ok p) r = r ≡ Ok (as_point p)
 Ends (Err (Refused e)) r = r ≡ Err e
 Ends (Err NoMemory) r = Unit {0}
-
--- the cells that are reached from what was used are kept
-abbrev pub keeping : Schema → List Use → Point → Point
-keeping s us p = record p { kept = kept_with (workbook s p.state) us p.kept }
 
 -- a formula has a value, and its reached cells are kept, or it has a fault
 abbrev pub GoesOn : {A : Type 0} → Schema → Run A → Point → Result (A × PlainPoint) Stop → Type 0

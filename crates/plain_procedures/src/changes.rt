@@ -1,7 +1,8 @@
 // The changes that statements make.
 ghost use Rattle.std.specs.Prelude.{◌≡◌, ◌++◌, ◌<◌, not, IfOk, OnOk, map, filter, length};
 ghost use Rattle.sheet_meaning.specs.Changes.{changed_set, with_set, first_set, has_number, has_parent_in, family, is_other, without_object};
-ghost use Rattle.plain_procedures.specs.Columns.{column_at, columns_under, new_cell, cell_with, cells_left, made_with, started};
+ghost use Rattle.sheet_meaning.specs.Start.{start_state};
+ghost use Rattle.plain_procedures.specs.Columns.{column_at, columns_under, new_cell, cell_with, cells_left, made_with};
 
 use plain_lists::{alone, combine, copied};
 use plain_meaning::{column_above, is_column};
@@ -203,7 +204,7 @@ fn copied_cells(alloc: Global, cells: &[StoredCell]) -> Result<Sequence<StoredCe
 
 /// The state at the start: the root alone, with the first values of its state cells.
 pub fn started(alloc: Global, schema: &Schema) -> Result<State, NoMemory>
-    ensures { IfOk result (λ state. state ≡ started schema.now) }
+    ensures { IfOk result (λ state. state ≡ start_state schema.now) }
 {
     let columns = state_columns(alloc, &schema.columns, 0)?;
     let cells = push_new_cells(alloc, Sequence::new(alloc), 0, columns.as_slice())?;

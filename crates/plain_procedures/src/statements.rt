@@ -5,9 +5,9 @@ ghost use Rattle.sheet_columns.specs.declared.fault.Place.TheVariants as place;
 ghost use Rattle.sheet_meaning.specs.declared.refusal.Refusal.TheVariants.{CheckFailed};
 ghost use Rattle.sheet_meaning.specs.Run.{both};
 ghost use Rattle.sheet_meaning.specs.Formula.{object_in, truth};
-ghost use Rattle.sheet_meaning.specs.Statements.{formula, target_object, ended, from_run, with_variable, store, make, remove, answer, turns, run_statement, run_statements};
+ghost use Rattle.sheet_meaning.specs.Statements.{formula, target_object, ended, from_run, with_variable, store, make, remove, answer, run_statement, run_statements};
 ghost use Rattle.plain_procedures.specs.Points.{as_point, Ends, GoesOn};
-ghost use Rattle.plain_procedures.specs.Blocks.{bind, change, create, delete, check, reply, turn};
+ghost use Rattle.plain_procedures.specs.Blocks.{bind, change, create, delete, check, reply, turn, turns};
 
 use crate::point::{
     PlainPoint, answer, formula, go_on, is_present, make, remove_all, store, target_object,

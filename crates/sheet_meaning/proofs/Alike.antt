@@ -21,7 +21,7 @@ use Rattle.sheet_meaning.proofs.Members.{IsIn, in_filter_map}
 use Rattle.sheet_meaning.proofs.Cells.{in_has}
 use Rattle.sheet_meaning.proofs.Below.{IsBelow, run_below}
 use Rattle.sheet_meaning.proofs.Tracks.{uses_suffice}
-use Rattle.sheet_meaning.proofs.Settling.{outcome_below, grows, later_same}
+use Rattle.sheet_meaning.proofs.Settling.{outcome_below, grows, later_same, rounds_end}
 use Rattle.sheet_meaning.proofs.FormulaCells.{object_cmp, cell_by_column, found_by_column}
 use Rattle.sheet_meaning.specs.declared.workbook.Workbook.{Workbook}
 
@@ -53,11 +53,11 @@ all_agree w u [] h = tt
 all_agree w u (x ∷ us) h = (h x (inl refl), all_agree w u us (λ y k. h y (inr k)))
 
 -- the outcome of a cell that has a formula
-abbrev outcome_of : (FormulaCell → Outcome (List Value)) → Option FormulaCell → Outcome (List Value)
+abbrev pub outcome_of : (FormulaCell → Outcome (List Value)) → Option FormulaCell → Outcome (List Value)
 outcome_of g None = none
 outcome_of g (Some f) = g f
 
-outcome_by_cell : (g : FormulaCell → Outcome (List Value)) (fs : List FormulaCell) (x : Cell) → outcome_in fs (map g fs) x.0 x.1 ≡ outcome_of g (cell_at fs x)
+pub outcome_by_cell : (g : FormulaCell → Outcome (List Value)) (fs : List FormulaCell) (x : Cell) → outcome_in fs (map g fs) x.0 x.1 ≡ outcome_of g (cell_at fs x)
 outcome_by_cell g [] x = refl
 outcome_by_cell g (f ∷ fs) x =
     elim (f.object == x.0 && f.column == x.1) as (λ b. (if b then g f else outcome_in fs (map g fs) x.0 x.1) ≡ outcome_of g (if b then Some f else cell_at fs x)) [
@@ -65,7 +65,7 @@ outcome_by_cell g (f ∷ fs) x =
       | false ↦ outcome_by_cell g fs x
     ]
 
-none_at_first : (fs : List FormulaCell) (x : Cell) → outcome_in fs (map (λ f. none) fs) x.0 x.1 ≡ none
+pub none_at_first : (fs : List FormulaCell) (x : Cell) → outcome_in fs (map (λ f. none) fs) x.0 x.1 ≡ none
 none_at_first [] x = refl
 none_at_first (f ∷ fs) x =
     elim (f.object == x.0 && f.column == x.1) as (λ b. (if b then none else outcome_in fs (map (λ f. none) fs) x.0 x.1) ≡ none) [
@@ -85,7 +85,7 @@ module _ (w : Workbook) (o c : ℕ) where
       (below_below _ _ _ (below_later k j) (outcome_below (formula_cells w) (table w (j + k)) (table w (suc (j + k))) (grows w (j + k)) o c))
 
   -- what a cell has in a round, it has in the end
-  below_meaning : (k : ℕ) → IsBelow (outcome_after w k o c) (meaning w o c)
+  pub below_meaning : (k : ℕ) → IsBelow (outcome_after w k o c) (meaning w o c)
   below_meaning k = subst (IsBelow (outcome_after w k o c)) (later_same w o c (rounds w + k) (omega arith)) (below_later k (rounds w))
 
 -- what a cell's formula uses in a round, it uses in the end
@@ -136,3 +136,16 @@ module _ (w u : Workbook) (same : u.schema ≡ w.schema) (first : IsRising objec
       sym (later_same u x.0 x.1 (rounds w + rounds u) (omega arith))
       ∙ same_outcome (rounds w + rounds u) x r
       ∙ later_same w x.0 x.1 (rounds w + rounds u) (omega arith)
+
+  -- and uses the same
+  pub same_uses : (x : Cell) → Reaches w from x → uses_at u x ≡ uses_at w x
+  same_uses x r =
+      ap (uses_of u) (same_cell x r)
+      ∙ elim (cell_at (formula_cells w) x) as (λ o. cell_at (formula_cells w) x ≡ o → uses_of u o ≡ uses_of w o) [
+        | None ↦ λ e. refl
+        | Some f ↦ λ e.
+            let k = rounds w + rounds u in
+            ap (λ t. (run_cell (world_at u t) f).uses) (sym (rounds_end u k (omega arith)))
+            ∙ ap (λ z. z.uses) (same_run k (same_outcome k) x r f e)
+            ∙ ap (λ t. (run_cell (world_at w t) f).uses) (rounds_end w k (omega arith))
+      ] refl

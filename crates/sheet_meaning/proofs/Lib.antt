@@ -11,5 +11,9 @@ pub mod Alike
 pub mod Pages
 pub mod Columns
 pub mod Starting
+pub mod Contents
+pub mod Keeping
+pub mod Fitting
+pub mod Leading
 pub mod Examples
 pub mod Club

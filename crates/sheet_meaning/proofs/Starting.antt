@@ -1,6 +1,6 @@
 -- The workbook at the start is well formed, and filled.
-use Rattle.std.proofs.Common.{◌≡◌, refl, sym, ap, ◌∙◌, subst, ℕ, ◌+◌, ◌≤◌, suc, Bool, true, false, List, [], ◌∷◌, ◌++◌, length, arith, Option, Some, None, inl, inr, ⊎_elim, length-append}
-use Rattle.std.specs.Prelude.{map, filter, find, not, ◌==◌, ◌&&◌, cond, sum_by, is_some, slice_get, if◌then◌else◌}
+use Rattle.std.proofs.Common.{◌≡◌, refl, sym, ap, ◌∙◌, subst, ℕ, ◌+◌, ◌≤◌, suc, Bool, true, false, List, [], ◌∷◌, length, arith, Option, Some, None, inl, inr, ⊎_elim, length-append}
+use Rattle.std.specs.Prelude.{map, filter, find, not, ◌==◌, ◌&&◌, cond, is_some, slice_get, if◌then◌else◌}
 use Rattle.std.specs.List.{filter_map, cons_option, enumerate_from, AllByRecursion}
 use Rattle.std.proofs.lemmas.List.{append-nil, length-map}
 use Rattle.std.proofs.lemmas.List.Sums.{sum_by-cons}
@@ -13,13 +13,13 @@ use Rattle.sheet_columns.specs.declared.tree.Node.{Node}
 use Rattle.sheet_meaning.specs.Changes.{first_set}
 use Rattle.sheet_meaning.specs.Statements.{workbook}
 use Rattle.sheet_meaning.specs.Start.{start_state, lacks_first, HasFirstValues, StartsAreWellFormed, StartsAreFilled}
-use Rattle.sheet_meaning.specs.Workbook.{FormulaCell, set_in, formula_cell, cells_of}
+use Rattle.sheet_meaning.specs.Workbook.{set_in, formula_cell, cells_of}
 use Rattle.sheet_meaning.specs.WellFormed.{StateColumn, as_state, state_columns, as_formula, all_formula_columns, HasFormulas, one_cells, stored_values, cell_count, HoldsKind, IsWellFormed}
 use Rattle.sheet_meaning.specs.declared.workbook.ColumnFormula.{ColumnFormula}
 use Rattle.sheet_meaning.specs.declared.workbook.StoredCell.{StoredCell}
 use Rattle.sheet_meaning.specs.declared.workbook.Schema.{Schema}
 use Rattle.sheet_meaning.specs.declared.workbook.State.{State}
-use Rattle.sheet_meaning.proofs.Members.{IsIn, both_true}
+use Rattle.sheet_meaning.proofs.Members.{IsIn}
 use Rattle.sheet_meaning.proofs.Columns.{all_from, all_in, all_map, column_there, new_typed}
 
 option_short : {A : Type 0} (o : Option A) (xs : List A) → length (cons_option o xs) ≤ suc (length xs)

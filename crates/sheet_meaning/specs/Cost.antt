@@ -1,6 +1,6 @@
 -- What evaluations cost, where the results of some formula cells are kept.
-use Rattle.std.specs.Prelude.{ℕ, ◌+◌, not, List, [], ◌∷◌, length, filter, sum_by}
-use Rattle.sheet_meaning.specs.Kept.{kept_with}
+use Rattle.std.specs.Prelude.{◌≡◌, ℕ, ◌+◌, not, true, List, [], ◌∷◌, length, filter, sum_by}
+use Rattle.sheet_meaning.specs.Kept.{kept_with, IsClosed}
 use Rattle.sheet_meaning.specs.Support.{Cell, has_cell, used_cells, uses_at, reached, reached_from}
 use Rattle.sheet_meaning.specs.declared.run.Use.{Use}
 use Rattle.sheet_meaning.specs.declared.workbook.Workbook.{Workbook}
@@ -29,3 +29,7 @@ cost_of w kept us = own_part us + own_parts_of_others w kept (reached w us)
 abbrev pub cost_of_all : Workbook → List Cell → List (List Use) → ℕ
 cost_of_all w kept [] = 0
 cost_of_all w kept (us ∷ uss) = cost_of w kept us + cost_of_all w (kept_with w us kept) uss
+
+-- a kept cell costs nothing, where what kept cells read is kept
+abbrev pub KeptCellsCostNothing : Type 0
+KeptCellsCostNothing = (w : Workbook) (kept : List Cell) (x : Cell) → IsClosed w kept → has_cell kept x ≡ true → cost_of_cell w kept x ≡ 0

@@ -14,4 +14,5 @@ pub mod Changes
 pub mod Statements
 pub mod Start
 pub mod Procedure
+pub mod Courses
 pub mod Page

@@ -1,5 +1,5 @@
 -- The workbook at the start.
-use Rattle.std.specs.Prelude.{◌≡◌, ℕ, ◌&&◌, not, Bool, false, List, [], ◌∷◌, map, is_some, None}
+use Rattle.std.specs.Prelude.{◌≡◌, ◌&&◌, not, Bool, false, List, [], ◌∷◌, map, is_some, None}
 use Rattle.std.specs.List.{AllByRecursion}
 use Rattle.sheet_columns.specs.declared.tree.Column.{Column}
 use Rattle.sheet_columns.specs.declared.tree.Column.TheVariants as column

@@ -243,11 +243,6 @@ run_block row s p = (course_block row s p).end
 abbrev pub run_statements : List CoreStatement → Schema → Point → Result Point Refusal
 run_statements xs s p = (course_statements xs s p).end
 
--- `for`, where each turn ends so
-abbrev pub turns : (Point → Result Point Refusal) → List Value → Point → Result Point Refusal
-turns body [] p = Ok p
-turns body (x ∷ xs) p = next (if is_present p.state x then ended p (body (with_variable p (x ∷ []))) else Ok p) (turns body xs)
-
 -- the cells kept before some changes that none of them drops
 abbrev pub left_by : Schema → List Changed → List Cell → List Cell
 left_by s changes kept = fold (λ ks (c : Changed). kept_after (workbook s c.before) (workbook s c.behind) ks) kept changes

@@ -1,6 +1,10 @@
 //! What formulas, statements and views mean.
 #![tactic(auto)]
 
+ghost use Rattle.sheet_meaning.specs.Arguments.{GoodArgumentsFit};
+ghost use Rattle.sheet_meaning.specs.Kept.{KeptCellsAreSets, KeptCellsStayClosed};
+ghost use Rattle.sheet_meaning.specs.Cost.{KeptCellsCostNothing};
+ghost use Rattle.sheet_meaning.specs.Courses.{StatementsAreCourses, ProceduresAreCourses};
 ghost use Rattle.sheet_meaning.specs.Page.{SupportSuffices};
 ghost use Rattle.sheet_meaning.specs.Reads.{UsesSuffice};
 ghost use Rattle.sheet_meaning.specs.Rounds.{RoundsEnd, CyclesAreFinal};
@@ -52,4 +56,35 @@ pub fn starts_are_well_formed()
 /// It is filled where the columns under the root that must hold one value have their first values.
 pub fn starts_are_filled()
     ensures { StartsAreFilled }
+{}
+
+/// No argument is bad exactly where there is one for each parameter and each is a live value of its type.
+pub fn good_arguments_fit()
+    ensures { GoodArgumentsFit }
+{}
+
+/// Which cells are kept after an evaluation, and after a change, doesn't rest on the order of a list.
+pub fn kept_cells_are_sets()
+    ensures { KeptCellsAreSets }
+{}
+
+/// Where what kept cells read directly is kept, it is so after an evaluation, and after a change.
+pub fn kept_cells_stay_closed()
+    ensures { KeptCellsStayClosed }
+{}
+
+/// A kept cell costs nothing.
+pub fn kept_cells_cost_nothing()
+    ensures { KeptCellsCostNothing }
+{}
+
+/// The changes of statements lead to the last point, which is the end of those that aren't refused; an item that no
+/// change touches stays as it was.
+pub fn statements_are_courses()
+    ensures { StatementsAreCourses }
+{}
+
+/// The same of the run of a procedure.
+pub fn procedures_are_courses()
+    ensures { ProceduresAreCourses }
 {}

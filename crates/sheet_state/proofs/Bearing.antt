@@ -25,12 +25,13 @@ use Rattle.sheet_meaning.specs.WellFormed.{StateColumn, as_state, state_columns,
 use Rattle.sheet_meaning.specs.declared.workbook.ColumnFormula.{ColumnFormula}
 use Rattle.sheet_meaning.specs.declared.workbook.LiveObject.{LiveObject}
 use Rattle.sheet_meaning.specs.declared.workbook.StoredCell.{StoredCell}
+use Rattle.sheet_meaning.proofs.Columns.{all_map, all_from}
 use Rattle.sheet_meaning.specs.declared.workbook.State.{State}
 use Rattle.sheet_state.specs.Births.{new_cell, new_extent, formula_columns, is_formula, firsts}
 use Rattle.sheet_state.specs.Kept.{schema_of, book, as_formula, as_extent, object_columns}
 use Rattle.sheet_state.specs.Rows.{cells_in, objects_in, object_of, row_cmp}
 use Rattle.sheet_state.proofs.WithSet.{all_mono}
-use Rattle.sheet_state.proofs.WithObject.{all_both, all_map, all_from}
+use Rattle.sheet_state.proofs.WithObject.{all_both}
 use Rattle.sheet_state.proofs.Newborn.{newborn, column_cmp}
 
 -- what the columns under a column give comes in the order of their numbers

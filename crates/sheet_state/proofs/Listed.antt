@@ -17,6 +17,7 @@ use Rattle.sheet_state_rows.specs.Rows.{Table, only_live}
 use Rattle.sheet_state_rows.specs.declared.row.SetRow.{SetRow}
 use Rattle.sheet_meaning.specs.Changes.{first_set}
 use Rattle.sheet_meaning.specs.WellFormed.{StateColumn, state_columns}
+use Rattle.sheet_meaning.proofs.Columns.{all_from, all_map, column_there}
 use Rattle.sheet_meaning.proofs.Members.{IsIn, any_in}
 use Rattle.sheet_state_references.specs.Order.{reference_cmp, holds_reference, is_held}
 use Rattle.sheet_state_references.specs.declared.references.Reference.{Reference}
@@ -26,7 +27,7 @@ use Rattle.sheet_state.specs.Deaths.{swept}
 use Rattle.sheet_state.specs.Kept.{schema_of}
 use Rattle.sheet_state.specs.Places.{IsListedRow, IsListed}
 use Rattle.sheet_state.proofs.Underneath.{one_of, right, all_in}
-use Rattle.sheet_state.proofs.WithObject.{all_from, all_both, all_map, column_is}
+use Rattle.sheet_state.proofs.WithObject.{all_both}
 use Rattle.sheet_state.proofs.WithSet.{all_mono}
 use Rattle.sheet_state.proofs.Without.{filter_all}
 
@@ -83,8 +84,8 @@ no_reference t one (Some v) h n e = no_object t v h n e
 
 new_row : (rs : List Reference) (nodes : List Node) → IsTree nodes → (o c : ℕ) (sc : StateColumn) → IsIn sc (state_columns (schema_of nodes) c) → IsListedRow rs (new_cell o sc)
 new_row rs nodes tree o c sc i = λ live n e.
-    let m = column_is nodes c sc i in
-    let fits = subst HasFittingFirst m.2 (tree.fitting sc.number m.0 m.1) in
+    let m = column_there (schema_of nodes) c sc i in
+    let fits = subst HasFittingFirst m.column (tree.fitting sc.number m.node m.at) in
     absurd (no_reference sc.kind sc.one sc.first fits n e)
 
 -- after an object came

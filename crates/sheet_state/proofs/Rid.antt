@@ -17,6 +17,7 @@ use Rattle.sheet_meaning.specs.Workbook.{children_in, set_in}
 use Rattle.sheet_meaning.specs.WellFormed.{cell_count, IsWellFormed}
 use Rattle.sheet_meaning.specs.declared.workbook.LiveObject.{LiveObject}
 use Rattle.sheet_meaning.specs.declared.workbook.StoredCell.{StoredCell}
+use Rattle.sheet_meaning.proofs.Columns.{all_map}
 use Rattle.sheet_meaning.specs.declared.workbook.State.{State}
 use Rattle.sheet_state.specs.Deaths.{is_doomed, buried, swept, lost_cells, rid_of}
 use Rattle.sheet_state.specs.Kept.{book, object_columns, extents_of, IsMoment}
@@ -26,7 +27,6 @@ use Rattle.sheet_state.proofs.Family.{Knows}
 use Rattle.sheet_state.proofs.Without.{stays, children_left, pairs_left, weight_of, cells_weighed, left_well_formed, family_closed, keys_left}
 use Rattle.sheet_state.proofs.Gone.{objects_left, cells_left, set_left, orphans, weighed_apart, values_apart}
 use Rattle.sheet_state.proofs.WithSet.{all_mono}
-use Rattle.sheet_state.proofs.WithObject.{all_map}
 
 pub buried_number : (d : List Value) (r : ObjectRow) → (buried d r).number ≡ r.number
 buried_number d r = elim (is_doomed d r) as (λ b. (if b then record r { live = false } else r).number ≡ r.number) [ true ↦ refl | false ↦ refl ]

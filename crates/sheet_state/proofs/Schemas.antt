@@ -1,21 +1,36 @@
 -- What a state is with some formulas it is with any.
 use Rattle.std.proofs.Common.{◌≡◌, refl, sym, ap, ◌∙◌, subst, ℕ, ◌+◌, Bool, true, false, List, [], ◌∷◌, length, arith, length-append, Some, None}
 use Rattle.std.specs.Prelude.{map, if◌then◌else◌}
-use Rattle.std.specs.List.{filter_map, flat_map, cons_option}
+use Rattle.std.specs.List.{filter_map, flat_map, cons_option, enumerate_from}
 use Rattle.sheet_columns.specs.Tree.{above_of, is_number}
 use Rattle.sheet_columns.specs.declared.tree.Node.{Node}
 use Rattle.sheet_meaning.specs.Workbook.{FormulaCell, formula_cell, cells_of, formula_cells}
-use Rattle.sheet_meaning.specs.WellFormed.{IsWellFormed, cell_count, state_cells, stored_values}
+use Rattle.sheet_meaning.specs.WellFormed.{as_formula, all_formula_columns, formula_numbers, HasFormulas, IsWellFormed, cell_count, state_cells, stored_values}
 use Rattle.sheet_meaning.specs.declared.workbook.ColumnFormula.{ColumnFormula}
 use Rattle.sheet_meaning.specs.declared.workbook.LiveObject.{LiveObject}
 use Rattle.sheet_meaning.specs.declared.workbook.Schema.{Schema}
 use Rattle.sheet_meaning.specs.declared.workbook.State.{State}
-use Rattle.sheet_state.specs.Kept.{schema_of, book}
+use Rattle.sheet_columns.specs.declared.tree.Column.{Column}
+use Rattle.sheet_columns.specs.declared.tree.Column.TheVariants as column
+use Rattle.sheet_state.specs.Kept.{as_formula as formula_in, schema_of, book}
 use Rattle.sheet_state.specs.Limits.{full_of}
-use Rattle.sheet_state.specs.Schemas.{formula_numbers, workbook, Carries, FormulasDontMatter, WorldsTellItems}
+use Rattle.sheet_state.specs.Schemas.{workbook, Carries, FormulasDontMatter, WorldsTellItems}
 
 abbrev numbers : List ColumnFormula → List ℕ
 numbers fs = map (λ (f : ColumnFormula). f.column) fs
+
+-- there is a formula for each formula column
+pub formulas_there : (nodes : List Node) → HasFormulas (schema_of nodes)
+formulas_there nodes = all (enumerate_from 0 nodes)
+  where
+    one : (k : ℕ) (c : Column) (fs : List ColumnFormula) (ns : List ℕ) → numbers fs ≡ ns → numbers (cons_option (formula_in k c) fs) ≡ cons_option (as_formula k c) ns
+    one k column.Object fs ns e = e
+    one k (column.State kind o first) fs ns e = e
+    one k (column.Formula kind) fs ns e = ap (λ l. k ∷ l) e
+
+    all : (xs : List (ℕ × Node)) → numbers (filter_map (λ (x : ℕ × Node). formula_in x.0 x.1.column) xs) ≡ filter_map (λ (x : ℕ × Node). as_formula x.0 x.1.column) xs
+    all [] = refl
+    all (x ∷ xs) = one x.0 x.1.column (filter_map (λ (y : ℕ × Node). formula_in y.0 y.1.column) xs) (filter_map (λ (y : ℕ × Node). as_formula y.0 y.1.column) xs) (all xs)
 
 -- formula cells are as many where the formulas' columns are the same
 module _ (s t : Schema) (same : s.columns ≡ t.columns) (o c : ℕ) where
@@ -63,6 +78,7 @@ other_formulas nodes fs gs u e w =
     let same = cells_as_many (with_formulas nodes fs) (with_formulas nodes gs) u refl e in
     let few = w.few_cells in
     record {
+      formulas = sym e ∙ w.formulas;
       root = w.root;
       rising = w.rising;
       under = w.under;
@@ -90,7 +106,7 @@ carried nodes fs u e =
 pub formulas_dont_matter : FormulasDontMatter
 formulas_dont_matter nodes s u is =
     subst (λ (cols : List Node). Carries cols s u) is.columns
-    (carried s.columns s.formulas u (is.formulas ∙ ap (λ (cols : List Node). formula_numbers (schema_of cols)) (sym is.columns)))
+    (carried s.columns s.formulas u (is.formulas ∙ sym (formulas_there s.columns)))
 
 pub worlds_tell_items : WorldsTellItems
 worlds_tell_items s u worked = record { cell = λ o c. refl; children = λ o c. refl; parent = λ o. refl; live = λ o. refl }

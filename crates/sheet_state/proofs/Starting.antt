@@ -10,16 +10,18 @@ use Rattle.sheet_state_rows.specs.Rows.{Table}
 use Rattle.sheet_state_rows.specs.declared.row.Counters.{Counters}
 use Rattle.sheet_state_rows.specs.declared.row.ObjectRow.{ObjectRow}
 use Rattle.sheet_state_rows.specs.declared.row.SetRow.{SetRow}
+use Rattle.sheet_meaning.specs.Start.{start_state}
 use Rattle.sheet_meaning.specs.Workbook.{set_in, children_in, cells_of}
+use Rattle.sheet_meaning.proofs.Starting.{starts_are_well_formed}
 use Rattle.sheet_meaning.specs.WellFormed.{StateColumn, state_columns, stored_values, cell_count, HoldsKind, IsWellFormed}
 use Rattle.sheet_meaning.specs.declared.workbook.LiveObject.{LiveObject}
 use Rattle.sheet_meaning.specs.declared.workbook.StoredCell.{StoredCell}
 use Rattle.sheet_meaning.specs.declared.workbook.State.{State}
 use Rattle.sheet_state.specs.Births.{new_cell, new_extent, with_rows, formula_columns, firsts}
-use Rattle.sheet_state.specs.Kept.{schema_of, book, object_columns, extents_of, start, IsMoment}
+use Rattle.sheet_state.specs.Kept.{schema_of, book, object_columns, extents_of, IsMoment}
 use Rattle.sheet_state.specs.Rows.{state_of, moment, IsSound}
 use Rattle.sheet_state.proofs.Existing.{key}
-use Rattle.sheet_state.proofs.WithObject.{all_map, all_from, new_typed}
+use Rattle.sheet_state.proofs.Schemas.{formulas_there}
 use Rattle.sheet_state.proofs.Newborn.{newborn}
 use Rattle.sheet_state.proofs.Bearing.{states_rise, extents_rise, grown_rising, grown_drawn, live_cells, live_extents, no_children, first_values, formulas_counted, empty_extent}
 
@@ -45,7 +47,7 @@ module _ (nodes : List Node) (tree : IsTree nodes) (counters : Counters) where
   first = with_rows (record { objects = record { number = 0; column = 0; parent = None; live = true } ∷ []; cells = []; extents = []; counters = counters }) 0 scs cols
 
   abbrev s : State
-  s = start nodes
+  s = start_state (schema_of nodes)
 
   pub state_first : counters.next ≡ 1 → state_of first ≡ s
   state_first next =
@@ -84,18 +86,7 @@ module _ (nodes : List Node) (tree : IsTree nodes) (counters : Counters) where
   moment_first next cells few_cells few_values =
       let counted = cells_first in
       let values = first_values 0 scs in
-      let well : IsWellFormed (book nodes s) = record {
-        root = refl;
-        rising = (tt, tt);
-        under = ((refl, refl), tt);
-        drawn = (omega arith, tt);
-        cells = newborn_keys 0 scs ∙ sym (append-nil (map (λ (k : StateColumn). (0, k.number)) scs));
-        typed = all_map (λ (x : StoredCell). HoldsKind s x (column_of nodes x.column)) (newborn 0) scs (all_from (λ (k : StateColumn). HoldsKind s (newborn 0 k) (column_of nodes k.number)) scs (λ k i. new_typed nodes tree s 0 0 k i));
-        few_objects = omega arith;
-        few_cells = omega (arith, counted, cells, few_cells);
-        few_values = omega (arith, values, few_values);
-        few_numbers = omega arith;
-      } in
+      let well : IsWellFormed (book nodes s) = starts_are_well_formed (schema_of nodes) tree (formulas_there nodes) in
       record {
         well_formed = subst (λ u. IsWellFormed (book nodes u)) (sym (state_first next)) well;
         extents = ap (map key) (live_extents 0 cols) ∙ empty_keys 0 cols ∙ sym (append-nil (map (λ (k : ℕ). (0, k)) cols)) ∙ ap (λ (u : State). extents_of nodes u.objects) (sym (state_first next));

@@ -27,7 +27,7 @@ use Rattle.sheet_meaning.specs.declared.refusal.Which.{Which}
 use Rattle.sheet_meaning.specs.declared.workbook.LiveObject.{LiveObject}
 use Rattle.sheet_meaning.specs.declared.workbook.StoredCell.{StoredCell}
 use Rattle.sheet_meaning.specs.declared.workbook.State.{State}
-use Rattle.sheet_meaning.proofs.Members.{IsIn, from_filter_map}
+use Rattle.sheet_meaning.proofs.Columns.{all_in, all_from, all_map, new_typed}
 use Rattle.sheet_state.specs.Kept.{schema_of, book}
 use Rattle.sheet_state.specs.Limits.{full_of, first_full}
 use Rattle.sheet_state.proofs.Back.{all_push}
@@ -75,76 +75,9 @@ rising_push {A} cmp (x ∷ xs) y r h = (below xs r.0, rising_push cmp xs y r.1 h
     below [] b = (h.0, tt)
     below (z ∷ zs) b = (b.0, below zs b.1)
 
-pub all_in : {A : Type 0} (P : A → Type 0) (xs : List A) (x : A) → AllByRecursion P xs → IsIn x xs → P x
-all_in P [] x h i = absurd i
-all_in P (y ∷ ys) x h i = ⊎_elim (λ e. subst P (sym e) h.0) (λ j. all_in P ys x h.1 j) i
-
-pub all_from : {A : Type 0} (P : A → Type 0) (xs : List A) → ((x : A) → IsIn x xs → P x) → AllByRecursion P xs
-all_from P [] f = tt
-all_from P (x ∷ xs) f = (f x (inl refl), all_from P xs (λ y i. f y (inr i)))
-
 pub all_both : {A : Type 0} (P : A → Type 0) (xs ys : List A) → AllByRecursion P xs → AllByRecursion P ys → AllByRecursion P (xs ++ ys)
 all_both P [] ys h g = g
 all_both P (x ∷ xs) ys h g = (h.0, all_both P xs ys h.1 g)
-
-pub all_map : {A B : Type 0} (P : B → Type 0) (f : A → B) (xs : List A) → AllByRecursion (λ x. P (f x)) xs → AllByRecursion P (map f xs)
-all_map P f [] h = tt
-all_map P f (x ∷ xs) h = (h.0, all_map P f xs h.1)
-
-from_enumerate : {A : Type 0} (xs : List A) (n k : ℕ) (x : A) → IsIn {A = ℕ × A} (k, x) (enumerate_from n xs) →
-    (j : ℕ) × (k ≡ n + j) × (slice_get xs j ≡ Some x)
-from_enumerate [] n k x i = absurd i
-from_enumerate {A} (y ∷ ys) n k x i =
-    ⊎_elim
-    (λ e. let same : x ≡ y = ap (λ (p : ℕ × A). p.1) e in let at : k ≡ n = ap (λ (p : ℕ × A). p.0) e in (0, omega arith, ap Some (sym same)))
-    (λ j. let f = from_enumerate ys (n + 1) k x j in (suc f.0, let h = f.1 in omega arith, f.2))
-    i
-
-given_some : (c : ℕ) (o : Option ℕ) → is_number c o ≡ true → o ≡ Some c
-given_some c None e = cc
-given_some c (Some k) e = ap Some (sym (eqb-true c k e))
-
-state_is : (k : ℕ) (c : Column) (sc : StateColumn) → as_state k c ≡ Some sc → (k ≡ sc.number) × (c ≡ column.State sc.kind sc.one sc.first)
-state_is k column.Object sc e = cc
-state_is k (column.State kind one first) sc e =
-    let same : record { number = k; kind = kind; one = one; first = first } ≡ sc = cc in
-    (ap (λ (s : StateColumn). s.number) same, ap (λ (s : StateColumn). column.State s.kind s.one s.first) same)
-state_is k (column.Formula kind) sc e = cc
-
--- the state columns under a column are what the tree says
-pub column_is : (nodes : List Node) (c : ℕ) (sc : StateColumn) → IsIn sc (state_columns (schema_of nodes) c) →
-    (n : Node) × (slice_get nodes sc.number ≡ Some n) × (n.column ≡ column.State sc.kind sc.one sc.first)
-column_is nodes c sc i =
-    let f = from_filter_map (λ (x : ℕ × Node). if is_number c x.1.above then as_state x.0 x.1.column else None) (enumerate_from 0 nodes) sc i in
-    let k = f.0.0 in
-    let n = f.0.1 in
-    let at = from_enumerate nodes 0 k n f.1 in
-    let here : at.0 ≡ k = let h = at.1 in omega arith in
-    elim (is_number c n.above) as (λ b. (if b then as_state k n.column else None) ≡ Some sc →
-    (m : Node) × (slice_get nodes sc.number ≡ Some m) × (m.column ≡ column.State sc.kind sc.one sc.first)) [
-      | true ↦ λ h. let s = state_is k n.column sc h in (n, ap (slice_get nodes) (sym s.0) ∙ ap (slice_get nodes) (sym here) ∙ at.2, s.1)
-      | false ↦ λ h. cc
-    ] f.2
-
-first_fits : (s : State) (k : Kind) (v : Value) → IsOfKind k v → HasKind s k v
-first_fits s kind.Truth (Truth b) h = tt
-first_fits s kind.Number (Number n) h = tt
-first_fits s kind.Text (Text t) h = tt
-first_fits s k v h = absurd h
-
-first_held : (s : State) (o k : ℕ) (t : Kind) (one : Bool) (first : Option Value) → HasFittingFirst (column.State t one first) →
-    HoldsKind s (record { object = o; column = k; set = first_set first }) (Some (column.State t one first))
-first_held s o k t one None h = (tt, tt)
-first_held s o k t one (Some v) h = ((tt, tt), (first_fits s t v h, tt))
-
--- a new cell has its column's type
-pub new_typed : (nodes : List Node) → IsTree nodes → (s : State) (o c : ℕ) (sc : StateColumn) → IsIn sc (state_columns (schema_of nodes) c) →
-    HoldsKind s (record { object = o; column = sc.number; set = first_set sc.first }) (column_of nodes sc.number)
-new_typed nodes tree s o c sc i =
-    let n = column_is nodes c sc i in
-    let is : column_of nodes sc.number ≡ Some (column.State sc.kind sc.one sc.first) = ap (option_map (λ (m : Node). m.column)) n.1 ∙ ap Some n.2 in
-    let fits = subst HasFittingFirst n.2 (tree.fitting sc.number n.0 n.1) in
-    subst (HoldsKind s (record { object = o; column = sc.number; set = first_set sc.first })) (sym is) (first_held s o sc.number sc.kind sc.one sc.first fits)
 
 unpassed : {A : Type 0} (m a : ℕ) (x : A) (rest : Option A) → (if nat_lt m a then Some x else rest) ≡ None → (a ≤ m) × (rest ≡ None)
 unpassed m a x rest e =
@@ -196,6 +129,7 @@ module _ (nodes : List Node) (tree : IsTree nodes) (s : State) (w : IsWellFormed
       let few = none_passed (length after.objects) (cell_count (book nodes after)) (stored_values after.cells) after.next room in
       let scs = state_columns (schema_of nodes) c in
       record {
+        formulas = w.formulas;
         root = found_kept s.objects (new ∷ []) 0 (record { number = 0; column = 0; parent = None }) w.root;
         rising =
             rising_push (on (λ (x : LiveObject). x.number) nat_cmp) s.objects new w.rising
@@ -217,14 +151,10 @@ module _ (nodes : List Node) (tree : IsTree nodes) (s : State) (w : IsWellFormed
             ∙ sym (flat_map-append (λ (x : LiveObject). map (λ (k : StateColumn). (x.number, k.number)) (state_columns (schema_of nodes) x.column)) s.objects
             (new ∷ []));
         typed =
-            all_both (λ (x : StoredCell). HoldsKind after x (column_of nodes x.column)) s.cells
-            (map (λ (k : StateColumn). record { object = s.next; column = k.number; set = first_set k.first }) scs)
-            (all_mono (λ (x : StoredCell). HoldsKind s x (column_of nodes x.column)) (λ (x : StoredCell). HoldsKind after x (column_of nodes x.column))
-            (λ x h. holds_kept s after keeps x (column_of nodes x.column) h) s.cells w.typed)
-            (all_map (λ (x : StoredCell). HoldsKind after x (column_of nodes x.column))
-            (λ (k : StateColumn). record { object = s.next; column = k.number; set = first_set k.first }) scs
-            (all_from (λ (k : StateColumn). HoldsKind after (record { object = s.next; column = k.number; set = first_set k.first }) (column_of nodes k.number))
-            scs (λ k i. new_typed nodes tree after s.next c k i)));
+            all_both (λ (x : StoredCell). HoldsKind after x (column_of nodes x.column)) s.cells (map (λ (k : StateColumn). record { object = s.next; column = k.number; set = first_set k.first }) scs)
+            (all_mono (λ (x : StoredCell). HoldsKind s x (column_of nodes x.column)) (λ (x : StoredCell). HoldsKind after x (column_of nodes x.column)) (λ x h. holds_kept s after keeps x (column_of nodes x.column) h) s.cells w.typed)
+            (all_map (λ (x : StoredCell). HoldsKind after x (column_of nodes x.column)) (λ (k : StateColumn). record { object = s.next; column = k.number; set = first_set k.first }) scs
+            (all_from (λ (k : StateColumn). HoldsKind after (record { object = s.next; column = k.number; set = first_set k.first }) (column_of nodes k.number)) scs (λ k i. new_typed (schema_of nodes) tree after s.next c k i)));
         few_objects = few.0;
         few_cells = few.1;
         few_values = few.2;

@@ -95,6 +95,7 @@ module _ (nodes : List Node) (s : State) (o c : ℕ) (set : List Value) where
   -- it is well formed where the values are few enough
   pub set_well_formed : IsWellFormed (book nodes s) → HoldsKind s (record { object = o; column = c; set = set }) (column_of nodes c) → stored_values after.cells ≤ max_values → IsWellFormed (book nodes after)
   set_well_formed w typed few = record {
+    formulas = w.formulas;
     root = w.root;
     rising = w.rising;
     under = w.under;

@@ -339,6 +339,7 @@ module _ (nodes : List Node) (s : State) (w : IsWellFormed (book nodes s)) (o : 
       let few_objects = w.few_objects in
       let few_values = w.few_values in
       record {
+        formulas = w.formulas;
         root = found_left ns s.objects 0 ∙ ap (λ b. if b then None else object_at s.objects 0) (root_stays nodes s w o positive) ∙ w.root;
         rising = filter_rising by_number (on_total (λ (x : LiveObject). x.number) nat_cmp_total) (stays ns) s.objects w.rising;
         under =

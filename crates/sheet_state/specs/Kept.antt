@@ -9,9 +9,8 @@ use Rattle.sheet_columns.specs.declared.item.Item.{Item}
 use Rattle.sheet_columns.specs.declared.tree.Column.{Column}
 use Rattle.sheet_columns.specs.declared.tree.Column.TheVariants as column
 use Rattle.sheet_columns.specs.declared.tree.Node.{Node}
-use Rattle.sheet_meaning.specs.Changes.{first_set}
 use Rattle.sheet_meaning.specs.Items.{is_changed}
-use Rattle.sheet_meaning.specs.WellFormed.{StateColumn, state_columns, cell_count, IsWellFormed}
+use Rattle.sheet_meaning.specs.WellFormed.{cell_count, IsWellFormed}
 use Rattle.sheet_meaning.specs.declared.workbook.ColumnFormula.{ColumnFormula}
 use Rattle.sheet_meaning.specs.declared.workbook.LiveObject.{LiveObject}
 use Rattle.sheet_meaning.specs.declared.workbook.Schema.{Schema}
@@ -67,14 +66,6 @@ pub record IsMoment (nodes : List Node) (m : Moment) : Type 0 where
 pub record IsKept (nodes : List Node) (k : Kept) : Type 0 where
   pub present : IsMoment nodes k.present
   pub earlier : AllByRecursion (IsMoment nodes) k.earlier
-
--- the root alone, with the first values of its state cells
-abbrev pub start : List Node → State
-start nodes = record {
-  objects = record { number = 0; column = 0; parent = None } ∷ [];
-  cells = map (λ (k : StateColumn). record { object = 0; column = k.number; set = first_set k.first }) (state_columns (schema_of nodes) 0);
-  next = 1;
-}
 
 -- the items are exactly those whose content differs between the two states
 abbrev pub AreChanged : State → State → List Item → Type 0

@@ -4,7 +4,7 @@ use Rattle.sheet_columns.specs.declared.tree.Node.{Node}
 use Rattle.sheet_meaning.specs.Changes.{with_object}
 use Rattle.sheet_meaning.specs.Formula.{World}
 use Rattle.sheet_meaning.specs.Workbook.{object_at, column_in, parent_in, children_in, set_in, world}
-use Rattle.sheet_meaning.specs.WellFormed.{IsWellFormed, cell_count}
+use Rattle.sheet_meaning.specs.WellFormed.{HasFormulas, IsWellFormed, cell_count}
 use Rattle.sheet_meaning.specs.Run.{Outcome}
 use Rattle.sheet_values.specs.declared.value.Value.{Value}
 use Rattle.sheet_meaning.specs.declared.workbook.ColumnFormula.{ColumnFormula}
@@ -14,14 +14,10 @@ use Rattle.sheet_meaning.specs.declared.workbook.Workbook.{Workbook}
 use Rattle.sheet_state.specs.Kept.{schema_of, book}
 use Rattle.sheet_state.specs.Limits.{first_full}
 
--- the columns of the formulas, in order
-abbrev pub formula_numbers : Schema → List ℕ
-formula_numbers s = map (λ (f : ColumnFormula). f.column) s.formulas
-
 -- the schema has these columns, and a formula for each of their formula columns, in order
 pub record IsSchemaOf (nodes : List Node) (s : Schema) : Type 0 where
   pub columns : s.columns ≡ nodes
-  pub formulas : formula_numbers s ≡ formula_numbers (schema_of nodes)
+  pub formulas : HasFormulas s
 
 -- the workbook of a schema and a state
 abbrev pub workbook : Schema → State → Workbook

@@ -6,12 +6,13 @@ ghost use Rattle.sheet_columns.specs.declared.tree.Column.TheVariants.{Object as
 ghost use Rattle.sheet_columns.specs.declared.item.Item.TheVariants.{Stored};
 ghost use Rattle.sheet_state_rows.specs.Rows.{with_cells, with_counters, set_row};
 ghost use Rattle.sheet_values.specs.Sorted.{IsRising};
+ghost use Rattle.sheet_meaning.specs.Start.{start_state};
 ghost use Rattle.sheet_meaning.specs.Changes.{with_set, with_object, without_object};
 ghost use Rattle.sheet_meaning.specs.Workbook.{object_at, column_in, parent_in, children_in, set_in};
 ghost use Rattle.sheet_meaning.specs.WellFormed.{HoldsKind};
 ghost use Rattle.sheet_state.specs.Births.{born, born_items, live_row, set_at};
 ghost use Rattle.sheet_state.specs.Deaths.{buried, swept, rid_of, rid_items};
-ghost use Rattle.sheet_state.specs.Kept.{IsKept, AreChanged, schema_of, book, start};
+ghost use Rattle.sheet_state.specs.Kept.{IsKept, AreChanged, schema_of, book};
 ghost use Rattle.sheet_state.specs.Places.{Covers, IsListed};
 ghost use Rattle.sheet_state_references.specs.declared.references.Reference.{Reference};
 ghost use Rattle.sheet_state.specs.Rows.{IsSound, moment, object_of, objects_in, cells_in, object_cmp, row_cmp};
@@ -70,7 +71,7 @@ impl Model for State {
 impl State {
     /// The root alone, with the first values of its state cells. Every later call takes the same columns.
     pub fn new(alloc: Global, columns: &Columns) -> Result<State, NoMemory>
-        ensures state { IfOk result (λ s. s.present.state ≡ start columns.now) }
+        ensures state { IfOk result (λ s. s.present.state ≡ start_state (schema_of columns.now)) }
         ensures earlier { IfOk result (λ s. s.earlier ≡ []) }
         ensures kept { IfOk result (λ s. IsKept columns.now s) }
     {

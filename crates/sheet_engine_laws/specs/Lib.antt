@@ -1,0 +1,4 @@
+pub mod Blocked
+pub mod Chains
+pub mod Found
+pub mod Local

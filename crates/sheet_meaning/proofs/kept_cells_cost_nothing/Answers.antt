@@ -1,0 +1,5 @@
+use Rattle.sheet_meaning.proofs.Keeping as laws
+use Rattle.sheet_meaning.proofs.kept_cells_cost_nothing.Goals as goal
+
+pub returns : goal.returns
+returns c = laws.kept_cells_cost_nothing
