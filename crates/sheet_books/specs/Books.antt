@@ -6,11 +6,13 @@ use Rattle.sheet_values.specs.declared.value.Kind.TheVariants as kind
 use Rattle.sheet_columns.specs.declared.tree.Column.{Column}
 use Rattle.sheet_columns.specs.declared.tree.Column.TheVariants as column
 use Rattle.sheet_columns.specs.declared.tree.Node.{Node}
+use Rattle.sheet_columns.specs.Firsts.{HasFirstValues}
 use Rattle.sheet_columns.specs.Tree.{column_of}
 use Rattle.sheet_columns.specs.Statements.{statements_in}
 use Rattle.sheet_columns.specs.declared.formula.Core.{Core}
-use Rattle.sheet_types_rules.specs.Columns.{kinds_from, home, IsHeldIn, AreKindsIn}
+use Rattle.sheet_types_rules.specs.Columns.{kinds_from, home, IsHeldIn}
 use Rattle.sheet_types_rules.specs.Formulas.{kind_in}
+use Rattle.sheet_types_rules.specs.Parameters.{AreParametersIn}
 use Rattle.sheet_types_rules.specs.Statements.{suits, behind_list, numbered_list}
 use Rattle.sheet_types_rules.specs.Views.{are_parts}
 use Rattle.sheet_books.specs.declared.body.Procedure.{Procedure}
@@ -51,23 +53,25 @@ IsWellTypedFormula n c e = (k : Kind) → column_of n c ≡ Some (column.Formula
 abbrev pub kinds_at_start : ℕ → List (List ℕ × Kind) → List Kind
 kinds_at_start callers parameters = kind.Object callers ∷ kind.Truth ∷ map (λ (p : List ℕ × Kind). p.1) parameters
 
--- a procedure: its `allow` formula is a truth, and its statements are well typed and numbered from 1
+-- a procedure: it has 16 parameters at most, its `allow` formula is a truth, and its statements are well typed and numbered from 1
 pub record IsWellTypedProcedure (n : List Node) (callers : ℕ) (p : Procedure) : Type 0 where
-  pub parameters : AreKindsIn n p.parameters
+  pub parameters : AreParametersIn n p.parameters
   pub allow : IsTypedAs kind.Truth n (kinds_at_start callers p.parameters) p.allow
   pub body : is_some (behind_list (statements_in p.body) n (kinds_from 0 n) (kinds_at_start callers p.parameters)) ≡ true
   pub numbers : is_some (numbered_list (statements_in p.body) 1) ≡ true
 
--- a view: its `allow` formula is a truth, and its parts are well typed and numbered from 1
+-- a view: it has 16 parameters at most, its `allow` formula is a truth, and its parts are well typed and numbered from 1
 pub record IsWellTypedView (n : List Node) (callers : ℕ) (v : View) : Type 0 where
-  pub parameters : AreKindsIn n v.parameters
+  pub parameters : AreParametersIn n v.parameters
   pub allow : IsTypedAs kind.Truth n (kinds_at_start callers v.parameters) v.allow
   pub parts : are_parts v.parts n (kinds_from 0 n) (kinds_at_start callers v.parameters) 1 ≡ true
 
--- all of a book: the callers are objects, and types of objects are those of object columns
+-- all of a book: the callers are objects, types of objects are those of object columns, and each column of one value under the root has a
+-- first value
 pub record IsWellTyped (b : Contents) : Type 0 where
   pub callers : column_of b.columns b.callers ≡ Some column.Object
   pub columns : AllByRecursion (λ (n : Node). IsHeldIn b.columns n.column) b.columns
+  pub first_values : HasFirstValues b.columns
   pub formulas : HaveFormulas b.columns 0 b.columns b.formulas
   pub procedures : AllByRecursion (IsWellTypedProcedure b.columns b.callers) b.procedures
   pub views : AllByRecursion (IsWellTypedView b.columns b.callers) b.views

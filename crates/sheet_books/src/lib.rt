@@ -7,4 +7,4 @@ mod law;
 
 pub use body::{Procedure, View};
 pub use book::{Book, Contents};
-pub use law::kinds_are_within;
+pub use law::{books_start_well, kinds_are_within};

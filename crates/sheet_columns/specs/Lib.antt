@@ -4,3 +4,4 @@ pub mod Contents
 pub mod ItemOrder
 pub mod Statements
 pub mod Tree
+pub mod Firsts

@@ -1,6 +1,6 @@
 -- Cells that wait for one another never settle; results that are found are final.
-use Rattle.std.proofs.Common.{◌≡◌, refl, sym, ap, ◌∙◌, subst, inl, inr, ⊎_elim, ℕ, zero, suc, ◌+◌, Bool, true, false, List, [], ◌∷◌, arith}
-use Rattle.std.specs.Prelude.{map, ◌⊎◌, ◌==◌, ◌&&◌, Option, Some, None, is_some, if◌then◌else◌}
+use Rattle.std.proofs.Common.{◌≡◌, refl, sym, ap, ◌∙◌, subst, inl, inr, ⊎_elim, ℕ, zero, suc, true, List, [], ◌∷◌, arith}
+use Rattle.std.specs.Prelude.{◌⊎◌, Some, None, is_some}
 use Rattle.std.specs.List.{filter_map, list_all}
 use Rattle.sheet_values.specs.declared.value.Value.{Value}
 use Rattle.sheet_values.specs.declared.value.Value.TheVariants.{Object}
@@ -16,7 +16,7 @@ use Rattle.sheet_meaning.specs.Workbook.{FormulaCell, formula_cells, world}
 use Rattle.sheet_meaning.specs.Rounds.{outcome_in, world_at, run_cell, table, outcome_after, meaning, rounds, settled_world, settled_run, cell_in}
 use Rattle.sheet_meaning.specs.Reads.{AgreeAt, Agree}
 use Rattle.sheet_meaning.specs.Support.{Cell, has_cell, cell_at, uses_of, cells_read}
-use Rattle.sheet_meaning.proofs.Members.{IsIn, Within, in_filter_map, from_filter_map, within_filter_map, both_true}
+use Rattle.sheet_meaning.proofs.Members.{IsIn, from_filter_map, within_filter_map, both_true}
 use Rattle.sheet_meaning.proofs.Cells.{in_has, has_in}
 use Rattle.sheet_meaning.proofs.Below.{IsBelow, run_below}
 use Rattle.sheet_meaning.proofs.Tracks.{uses_suffice}
@@ -74,7 +74,6 @@ cell_use us y h = let f = from_filter_map cell_in us y h in subst (λ x. IsIn x 
     same (used.Cell o c) e = let f : (o, c) ≡ y = cc in ap (λ (z : Cell). used.Cell z.0 z.1) f
 
 module _ (w : Workbook) (cells : List Cell) (blocked : AreBlocked w cells) where
-
   -- a cell of them that a formula uses over the meanings of all cells
   record Waits (f : FormulaCell) : Type 0 where
     cell : Cell

@@ -1,5 +1,5 @@
 -- Results of formula cells that are found so far.
-use Rattle.std.specs.Prelude.{◌≡◌, ℕ, Bool, true, false, List, Option, Some, None, is_some}
+use Rattle.std.specs.Prelude.{◌≡◌, ℕ, true, List, Option, Some, is_some}
 use Rattle.std.specs.List.{list_all, filter_map}
 use Rattle.sheet_values.specs.declared.value.Value.{Value}
 use Rattle.sheet_columns.specs.declared.fault.Place.{Place}

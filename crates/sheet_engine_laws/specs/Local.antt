@@ -1,5 +1,5 @@
 -- Cells that are settled among themselves.
-use Rattle.std.specs.Prelude.{◌≡◌, ℕ, zero, suc, true, if◌then◌else◌, List, Some, None, Option}
+use Rattle.std.specs.Prelude.{◌≡◌, ℕ, zero, suc, true, if◌then◌else◌, List, [], Some, None, Option}
 use Rattle.sheet_values.specs.declared.value.Value.{Value}
 use Rattle.sheet_meaning.specs.Formula.{World}
 use Rattle.sheet_meaning.specs.Run.{Outcome, none}

@@ -3,6 +3,7 @@
 
 ghost use Rattle.sheet_engine_laws.specs.Blocked.{BlockedAreCycles};
 ghost use Rattle.sheet_engine_laws.specs.Chains.{ChainsAreCycles, MeaningsAreWorkedOut};
+ghost use Rattle.sheet_engine_laws.specs.Local.{LocalRoundsSettle};
 ghost use Rattle.sheet_engine_laws.specs.Found.{FoundSettle, NeededAreRead};
 
 /// Formula cells each of which directly reads one of them are cycles: no round gives one of them an outcome.
@@ -29,4 +30,10 @@ pub fn waiting_chains_are_cycles()
 /// A cell's meaning is what its formula comes to over the meanings of all cells; it is none where there is no such formula cell.
 pub fn meanings_are_worked_out()
     ensures { MeaningsAreWorkedOut }
+{}
+
+/// Where cells are worked out in rounds of their own, and after some rounds their formulas use these cells alone and a round more
+/// changes nothing, they have their meanings.
+pub fn local_rounds_settle()
+    ensures { LocalRoundsSettle }
 {}

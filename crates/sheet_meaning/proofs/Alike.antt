@@ -73,7 +73,7 @@ none_at_first (f ∷ fs) x =
       | false ↦ none_at_first fs x
     ]
 
-below_below : (o q r : Outcome (List Value)) → IsBelow o q → IsBelow q r → IsBelow o r
+pub below_below : (o q r : Outcome (List Value)) → IsBelow o q → IsBelow q r → IsBelow o r
 below_below o q r a b = ⊎_elim (λ e. inl e) (λ e. subst (λ x. IsBelow x r) e b) a
 
 module _ (w : Workbook) (o c : ℕ) where

@@ -28,7 +28,7 @@ own_reverse Greater e = cc
 pub equal_itself : {A : Type 0} (cmp : A → A → Ordering) → IsTotalOrder cmp → (x : A) → cmp x x ≡ Equal
 equal_itself cmp total x = own_reverse (cmp x x) (total.antisymm x x)
 
-less_differs : (m n : ℕ) → nat_cmp m n ≡ Less → (m == n) ≡ false
+pub less_differs : (m n : ℕ) → nat_cmp m n ≡ Less → (m == n) ≡ false
 less_differs m n less =
     elim (m == n) as (λ b. (m == n) ≡ b → b ≡ false) [
       | true ↦ λ e.

@@ -15,5 +15,6 @@ pub mod Contents
 pub mod Keeping
 pub mod Fitting
 pub mod Leading
+pub mod Untouched
 pub mod Examples
 pub mod Club

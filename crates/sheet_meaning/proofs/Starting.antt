@@ -6,13 +6,14 @@ use Rattle.std.proofs.lemmas.List.{append-nil, length-map}
 use Rattle.std.proofs.lemmas.List.Sums.{sum_by-cons}
 use Rattle.std.proofs.lemmas.Bool.{eq-eqb, eqb-true}
 use Rattle.sheet_values.specs.declared.value.Value.{Value}
+use Rattle.sheet_columns.specs.Firsts.{lacks_first, HasFirstValues}
 use Rattle.sheet_columns.specs.Tree.{column_of, is_number, IsTree}
 use Rattle.sheet_columns.specs.declared.tree.Column.{Column}
 use Rattle.sheet_columns.specs.declared.tree.Column.TheVariants as column
 use Rattle.sheet_columns.specs.declared.tree.Node.{Node}
 use Rattle.sheet_meaning.specs.Changes.{first_set}
 use Rattle.sheet_meaning.specs.Statements.{workbook}
-use Rattle.sheet_meaning.specs.Start.{start_state, lacks_first, HasFirstValues, StartsAreWellFormed, StartsAreFilled}
+use Rattle.sheet_meaning.specs.Start.{start_state, StartsAreWellFormed, StartsAreFilled}
 use Rattle.sheet_meaning.specs.Workbook.{set_in, formula_cell, cells_of}
 use Rattle.sheet_meaning.specs.WellFormed.{StateColumn, as_state, state_columns, as_formula, all_formula_columns, HasFormulas, one_cells, stored_values, cell_count, HoldsKind, IsWellFormed}
 use Rattle.sheet_meaning.specs.declared.workbook.ColumnFormula.{ColumnFormula}

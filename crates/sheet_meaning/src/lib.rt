@@ -4,7 +4,7 @@
 ghost use Rattle.sheet_meaning.specs.Arguments.{GoodArgumentsFit};
 ghost use Rattle.sheet_meaning.specs.Kept.{KeptCellsAreSets, KeptCellsStayClosed};
 ghost use Rattle.sheet_meaning.specs.Cost.{KeptCellsCostNothing};
-ghost use Rattle.sheet_meaning.specs.Courses.{StatementsAreCourses, ProceduresAreCourses};
+ghost use Rattle.sheet_meaning.specs.Courses.{StatementsAreCourses, ProceduresAreCourses, UntouchedCellsStayFilled};
 ghost use Rattle.sheet_meaning.specs.Page.{SupportSuffices};
 ghost use Rattle.sheet_meaning.specs.Reads.{UsesSuffice};
 ghost use Rattle.sheet_meaning.specs.Rounds.{RoundsEnd, CyclesAreFinal};
@@ -87,4 +87,9 @@ pub fn statements_are_courses()
 /// The same of the run of a procedure.
 pub fn procedures_are_courses()
     ensures { ProceduresAreCourses }
+{}
+
+/// A cell that must hold exactly one value does so still, where it did before and no change touched it or its object.
+pub fn untouched_cells_stay_filled()
+    ensures { UntouchedCellsStayFilled }
 {}

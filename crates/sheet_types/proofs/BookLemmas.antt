@@ -16,7 +16,8 @@ use Rattle.sheet_define_data.specs.declared.definition.Content.TheVariants as co
 use Rattle.sheet_define_data.specs.declared.definition.Declaration.{Declaration}
 use Rattle.sheet_define_data.specs.declared.definition.Declaration.TheVariants as declaration
 use Rattle.sheet_define_data.specs.declared.definition.Definition.{Definition}
-use Rattle.sheet_types_rules.specs.Columns.{kind_of_column, kinds_from, home, AreKindsIn}
+use Rattle.sheet_types_rules.specs.Columns.{kind_of_column, kinds_from, home}
+use Rattle.sheet_types_rules.specs.Parameters.{AreParametersIn}
 use Rattle.sheet_types_rules.specs.Formulas.{kind_in, serves}
 use Rattle.sheet_types_rules.specs.Kinds.{common}
 use Rattle.sheet_types_rules.specs.Statements.{suits}
@@ -37,7 +38,7 @@ use Rattle.sheet_books.specs.Within.{KindsAreWithin}
 use Rattle.sheet_types.specs.declared.bodies.Bodies.{Bodies}
 use Rattle.sheet_types.specs.Elaboration.{judged, column_formula, column_body, with_procedure, with_view, add_column, judge, no_bodies, all_judged, with_kinds, last_kinds, settled, book_of, with_bodies}
 use Rattle.sheet_types.specs.WellTyped.{BooksAreWellTyped}
-use Rattle.sheet_types.proofs.SettledLemmas.{FormulasHaveKinds, AreAllKindsIn, AreFrom, from_first, first_is, from_next, first_within, rounds_within, settled_object, settled_length, settled_parameters, settled_columns, settled_forms}
+use Rattle.sheet_types.proofs.SettledLemmas.{FormulasHaveKinds, AreAllKindsIn, AreFrom, from_first, first_is, from_next, first_within, rounds_within, settled_object, settled_length, settled_parameters, settled_firsts, settled_columns, settled_forms}
 
 append_nil : {A : Type 0} (xs : List A) → xs ++ [] ≡ xs
 append_nil [] = refl
@@ -169,8 +170,8 @@ record AreTyped (o : Outline) (s : Bodies) : Type 0 where
   procedures : AllByRecursion (IsWellTypedProcedure o.columns o.callers) s.procedures
   views : AllByRecursion (IsWellTypedView o.columns o.callers) s.views
 
-parameters_at : (n : List Node) (lists : List (List (List ℕ × Kind))) (k : ℕ) → AllByRecursion (AreKindsIn n) lists → AreKindsIn n (slice_index_or lists k [])
-parameters_at n [] k all = tt
+parameters_at : (n : List Node) (lists : List (List (List ℕ × Kind))) (k : ℕ) → AllByRecursion (AreParametersIn n) lists → AreParametersIn n (slice_index_or lists k [])
+parameters_at n [] k all = (omega arith, tt)
 parameters_at n (ps ∷ lists) zero all = all.0
 parameters_at n (ps ∷ lists) (suc k) all = parameters_at n lists k all.1
 
@@ -178,7 +179,7 @@ module _ (typed_procedures : ProceduresAreTyped) (typed_views : ViewsAreTyped) (
   abbrev own : List Kind
   own = kinds_from 0 o.columns
 
-  step_typed : (s t : Bodies) (d : Declaration) → AllByRecursion (AreKindsIn o.columns) o.procedures → AllByRecursion (AreKindsIn o.columns) o.views
+  step_typed : (s t : Bodies) (d : Declaration) → AllByRecursion (AreParametersIn o.columns) o.procedures → AllByRecursion (AreParametersIn o.columns) o.views
       → AreTyped o s → judge o own s d ≡ Ok t → AreTyped o t
   step_typed s t (declaration.Callers line p) procedures views all is = subst (AreTyped o) (same_ok s t is) all
   step_typed s t (declaration.Column w) procedures views all is =
@@ -204,14 +205,14 @@ module _ (typed_procedures : ProceduresAreTyped) (typed_views : ViewsAreTyped) (
         views = all_more (IsWellTypedView o.columns o.callers) s.views b.0 all.views here;
       })
 
-  all_typed : (ds : List Declaration) (s t : Bodies) → AllByRecursion (AreKindsIn o.columns) o.procedures → AllByRecursion (AreKindsIn o.columns) o.views
+  all_typed : (ds : List Declaration) (s t : Bodies) → AllByRecursion (AreParametersIn o.columns) o.procedures → AllByRecursion (AreParametersIn o.columns) o.views
       → AreTyped o s → in_turn (judge o own) s ds ≡ Ok t → AreTyped o t
   all_typed [] s t procedures views all is = subst (AreTyped o) (same_ok s t is) all
   all_typed (d ∷ ds) s t procedures views all is =
       let a = both_ok (judge o own s d) (λ u. in_turn (judge o own) u ds) t is in
       all_typed ds a.0 t procedures views (step_typed s a.0 d procedures views all a.1) a.2
 
-settled_lists : (ks : List Kind) (nodes : List Node) (lists : List (List (List ℕ × Kind))) → AllByRecursion (AreKindsIn nodes) lists → AllByRecursion (AreKindsIn (with_kinds ks 0 nodes)) lists
+settled_lists : (ks : List Kind) (nodes : List Node) (lists : List (List (List ℕ × Kind))) → AllByRecursion (AreParametersIn nodes) lists → AllByRecursion (AreParametersIn (with_kinds ks 0 nodes)) lists
 settled_lists ks nodes [] all = tt
 settled_lists ks nodes (ps ∷ lists) all = (settled_parameters ks nodes ps all.0, settled_lists ks nodes lists all.1)
 
@@ -230,6 +231,7 @@ books_well_typed outlines haves within procedures views d o b orderly is tree ma
     subst IsWellTyped (same_ok (book_of p a.0) b a.2) (record {
       callers = settled_object ks 0 o.columns o.callers w.callers;
       columns = settled_columns ks o.columns found w.columns;
+      first_values = settled_firsts ks 0 o.columns w.first_values;
       formulas = have_all haves p d.declarations a.0 p.columns a.1 (from_first p.columns) (settled_forms ks 0 o.columns ∙ w.forms);
       procedures = typed_all.procedures;
       views = typed_all.views;

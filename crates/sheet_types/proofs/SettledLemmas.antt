@@ -1,14 +1,14 @@
 -- Columns with the types of the last round, which are those of object columns as far as they are of objects.
-use Rattle.std.proofs.Common.{◌≡◌, ℕ, ◌+◌, zero, suc, Bool, true, false, List, [], ◌∷◌, length, map, Option, Some, None, Ok, Err, cond, refl, sym, ap, ◌∙◌}
-use Rattle.std.proofs.Common.{subst, arith}
-use Rattle.std.specs.Prelude.{slice_get, slice_index_or, codes, option_map, option_and_then}
+use Rattle.std.proofs.Common.{◌≡◌, ℕ, ◌+◌, zero, suc, Bool, true, false, List, [], ◌∷◌, length, map, Option, Some, None, Ok, Err, cond, refl, sym, ap, ◌∙◌, subst, arith}
+use Rattle.std.specs.Prelude.{◌&&◌, slice_get, slice_index_or, codes, option_map, option_and_then}
 use Rattle.std.specs.List.{AllByRecursion}
 use Rattle.sheet_values.specs.declared.value.Kind.{Kind}
 use Rattle.sheet_values.specs.declared.value.Kind.TheVariants as kind
 use Rattle.sheet_columns.specs.declared.tree.Column.{Column}
 use Rattle.sheet_columns.specs.declared.tree.Column.TheVariants as column
 use Rattle.sheet_columns.specs.declared.tree.Node.{Node}
-use Rattle.sheet_columns.specs.Tree.{column_of, IsUnder, IsTree}
+use Rattle.sheet_columns.specs.Firsts.{lacks_first, HasFirstValues}
+use Rattle.sheet_columns.specs.Tree.{column_of, is_number, IsUnder, IsTree}
 use Rattle.sheet_syntax_trees.specs.declared.tree.Tree.{Tree}
 use Rattle.sheet_types_formulas.specs.declared.scope.Typed.{Typed}
 use Rattle.sheet_types_formulas.specs.declared.scope.Variable.{Variable}
@@ -16,6 +16,7 @@ use Rattle.sheet_types_formulas.specs.Answers.{Answer}
 use Rattle.sheet_types_formulas.specs.Names.{reach}
 use Rattle.sheet_types_formulas.specs.Typing.{typed}
 use Rattle.sheet_types_rules.specs.Columns.{kind_of_column, kinds_from, home, home_at, IsKindIn, IsHeldIn, AreKindsIn}
+use Rattle.sheet_types_rules.specs.Parameters.{AreParametersIn}
 use Rattle.sheet_types_rules.specs.Formulas.{kind_in}
 use Rattle.sheet_books.specs.Within.{KindsAreWithin}
 use Rattle.sheet_types_outline.specs.Within.{form}
@@ -54,9 +55,23 @@ settled_kind kinds nodes kind.Number within = tt
 settled_kind kinds nodes kind.Text within = tt
 settled_kind kinds nodes (kind.Object c) within = settled_object kinds 0 nodes c within
 
-pub settled_parameters : (kinds : List Kind) (nodes : List Node) (ps : List (List ℕ × Kind)) → AreKindsIn nodes ps → AreKindsIn (with_kinds kinds 0 nodes) ps
-settled_parameters kinds nodes [] all = tt
-settled_parameters kinds nodes (p ∷ ps) all = (settled_kind kinds nodes p.1 all.0, settled_parameters kinds nodes ps all.1)
+settled_each : (kinds : List Kind) (nodes : List Node) (ps : List (List ℕ × Kind)) → AreKindsIn nodes ps → AreKindsIn (with_kinds kinds 0 nodes) ps
+settled_each kinds nodes [] all = tt
+settled_each kinds nodes (p ∷ ps) all = (settled_kind kinds nodes p.1 all.0, settled_each kinds nodes ps all.1)
+
+pub settled_parameters : (kinds : List Kind) (nodes : List Node) (ps : List (List ℕ × Kind)) → AreParametersIn nodes ps → AreParametersIn (with_kinds kinds 0 nodes) ps
+settled_parameters kinds nodes ps all = (all.0, settled_each kinds nodes ps all.1)
+
+lacks_settled : (k : Kind) (x : Column) → lacks_first (of_kind k x) ≡ lacks_first x
+lacks_settled k column.Object = refl
+lacks_settled k (column.State l one first) = refl
+lacks_settled k (column.Formula l) = refl
+
+-- first values stay
+pub settled_firsts : (kinds : List Kind) (c : ℕ) (nodes : List Node) → HasFirstValues nodes → HasFirstValues (with_kinds kinds c nodes)
+settled_firsts kinds c [] all = tt
+settled_firsts kinds c (n ∷ nodes) all =
+    (ap (λ b. is_number 0 n.above && b) (lacks_settled (slice_index_or kinds c kind.Unknown) n.column) ∙ all.0, settled_firsts kinds (c + 1) nodes all.1)
 
 -- the type of a column
 pub kind_at : (n : List Node) (ks : List Kind) (c : ℕ) → AreAllKindsIn n ks → IsKindIn n (slice_index_or ks c kind.Unknown)

@@ -6,3 +6,4 @@ pub mod PlainTokens
 pub mod ResolvingLemmas
 pub mod StepLemmas
 pub mod WithinLemmas
+pub mod FirstLemmas

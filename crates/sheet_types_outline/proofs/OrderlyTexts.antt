@@ -4,9 +4,11 @@ use Rattle.sheet_syntax_trees.specs.declared.token.Token.{Token}
 use Rattle.sheet_syntax_trees.specs.Grammar.{expression}
 use Rattle.sheet_define_data.specs.declared.definition.Declaration.{Declaration}
 use Rattle.sheet_define_data.specs.declared.definition.Literal.{Literal}
-use Rattle.sheet_define_data.specs.Grammar.{Limits, Maybe, left_out, stated, IsName, IsLiteral, a_number, a_negative_number, a_text, a_true, a_false, IsFirst}
-use Rattle.sheet_define_data.specs.Grammar.{a_first, IsColumn, an_object_column, a_state_column, a_formula_column, AreColumns, no_columns, more_columns}
-use Rattle.sheet_define_data.specs.Grammar.{IsDeclaration, the_callers, a_column, one_procedure, one_view, AreDeclarations, no_declarations, more_declarations}
+use Rattle.sheet_define_data.specs.declared.definition.Parameter.{Parameter}
+use Rattle.sheet_define_data.specs.declared.definition.Procedure.{Procedure}
+use Rattle.sheet_define_data.specs.declared.definition.View.{View}
+use Rattle.sheet_types_rules.specs.Parameters.{most_parameters}
+use Rattle.sheet_define_data.specs.Grammar.{Limits, Maybe, left_out, stated, IsName, IsLiteral, a_number, a_negative_number, a_text, a_true, a_false, IsFirst, a_first, IsColumn, an_object_column, a_state_column, a_formula_column, AreColumns, no_columns, more_columns, InParentheses, no_parameters, some_parameters, IsProcedure, a_procedure, IsView, a_view, IsDeclaration, the_callers, a_column, one_procedure, one_view, AreDeclarations, no_declarations, more_declarations}
 use Rattle.sheet_types_outline.specs.Orderly.{IsUnsigned, IsUnsignedIfAny, IsOrderlyFrom}
 use Rattle.sheet_types_outline.specs.Texts.{TextsAreOrderly}
 use Rattle.sheet_types_outline.proofs.PlainTokens.{IsPlain, ArePlain, lexed_plain, formula_plain, path_plain, type_plain, one_word_plain, first_plain}
@@ -82,14 +84,24 @@ mutual
         before = λ fs behind. subst (IsOrderlyBehind k) (sym (append_assoc ds es fs)) (front.before (es ++ fs) (more.before fs behind));
       }
 
+few : (ts us : List Token) (ps : List Parameter) → InParentheses ts ps us → length ps ≤ most_parameters
+few _ _ _ (no_parameters o c ts a1 a2) = omega arith
+few _ _ _ (some_parameters o c ts us ps a1 q le a2) = le
+
+procedure_few : (l : Limits) (b : ℕ) (ts us : List Token) (x : Procedure) → IsProcedure l b ts x us → length x.parameters ≤ most_parameters
+procedure_few l b _ _ _ (a_procedure w n name ps ts bs rest parameters allow body a1 a2 q r s) = few ps ts parameters q
+
+view_few : (l : Limits) (ts us : List Token) (v : View) → IsView l ts v us → length v.parameters ≤ most_parameters
+view_few l _ _ _ (a_view w n o c name ps ts us rest parameters allow parts a1 a2 q r a3 s a4) = few ps ts parameters q
+
 declaration_orderly : (l : Limits) (b : ℕ) (ts us : List Token) (ds : List Declaration) → IsDeclaration l b ts ds us → ArePlain ts → IsOrderlyFront 0 ds us
 declaration_orderly l b _ _ _ (the_callers w ts rest q a1 r) p =
     record { plain = path_plain ts rest q r p.1; before = λ es behind. record { orderly = λ count lt. (tt, behind.orderly count lt) } }
 declaration_orderly l b _ _ _ (a_column ts rest ds q) p = column_orderly l 0 ts rest ds q p
 declaration_orderly l b _ _ _ (one_procedure ts rest x q) p =
-    record { plain = procedure_plain l b ts rest x q p; before = λ es behind. record { orderly = λ count lt. (tt, behind.orderly count lt) } }
+    record { plain = procedure_plain l b ts rest x q p; before = λ es behind. record { orderly = λ count lt. (procedure_few l b ts rest x q, behind.orderly count lt) } }
 declaration_orderly l b _ _ _ (one_view ts rest v q) p =
-    record { plain = view_plain l ts rest v q p; before = λ es behind. record { orderly = λ count lt. (tt, behind.orderly count lt) } }
+    record { plain = view_plain l ts rest v q p; before = λ es behind. record { orderly = λ count lt. (view_few l ts rest v q, behind.orderly count lt) } }
 
 declarations_orderly : (l : Limits) (b : ℕ) (ts : List Token) (ds : List Declaration) → AreDeclarations l b ts ds → ArePlain ts → IsOrderlyBehind 0 ds
 declarations_orderly l b _ _ no_declarations p = record { orderly = λ count lt. tt }

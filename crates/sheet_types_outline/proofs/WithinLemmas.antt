@@ -1,5 +1,5 @@
 -- The columns and types of an outline are its own.
-use Rattle.std.proofs.Common.{◌≡◌, ℕ, zero, suc, Bool, true, false, ◌&&◌, cond, List, [], ◌∷◌, ◌++◌, length, map, Option, Some, None, Ok, Err, refl, sym, ap, ◌∙◌, subst, append_assoc}
+use Rattle.std.proofs.Common.{◌≡◌, ℕ, ◌+◌, ◌≤◌, zero, suc, Bool, true, false, ◌&&◌, cond, List, [], ◌∷◌, ◌++◌, length, map, Option, Some, None, Ok, Err, refl, sym, ap, ◌∙◌, subst, append_assoc, length-append, arith}
 use Rattle.std.specs.Prelude.{◌==◌, option_map, unwrap_or}
 use Rattle.std.specs.List.{AllByRecursion}
 use Rattle.std.proofs.lemmas.List.{map-append}
@@ -25,16 +25,35 @@ use Rattle.sheet_types_outline.specs.declared.resolving.Resolved.{Resolved}
 use Rattle.sheet_types_outline.specs.Columns.{objects_at, objects_in, is_object_node, AreObjects, AreFitting, AreAlike}
 use Rattle.sheet_types_outline.specs.Steps.{in_turn}
 use Rattle.sheet_types_outline.specs.Naming.{untyped, name_declaration, nothing_named, all_named}
-use Rattle.sheet_types_outline.specs.Orderly.{IsOrderlyFrom}
+use Rattle.sheet_types_outline.specs.Orderly.{IsOrderlyAt, IsOrderlyFrom, count_behind}
 use Rattle.sheet_types_outline.specs.Types.{follow, is_object_column, if_object_column, object_column_at, kind_of, declared_kind, first_value, state_column, column_content}
 use Rattle.sheet_types_outline.specs.Resolving.{resolve_parameter, parameters_of, resolve, nothing_resolved, all_resolved}
 use Rattle.sheet_types_outline.specs.Outlines.{filled, outline_of}
 use Rattle.sheet_types_outline.specs.Within.{form, forms_at, forms_in, IsWithin, OutlinesAreWithin}
 use Rattle.sheet_types_rules.specs.Columns.{IsKindIn, IsHeldIn, AreKindsIn}
+use Rattle.sheet_types_rules.specs.Parameters.{most_parameters, AreParametersIn}
 use Rattle.sheet_types_outline.proofs.StepLemmas.{both_ok, same_ok, passed}
 use Rattle.sheet_types_outline.proofs.NamingLemmas.{goes_on}
 use Rattle.sheet_types_outline.proofs.ResolvingLemmas.{grows}
 use Rattle.sheet_types_outline.proofs.FillLemmas.{alike_sorts}
+use Rattle.sheet_types_outline.proofs.FirstLemmas.{outline_firsts}
+
+-- procedures and views have 16 parameters at most
+abbrev HasFew : Declaration → Type 0
+HasFew (declaration.Callers line p) = Unit {0}
+HasFew (declaration.Column c) = Unit {0}
+HasFew (declaration.Procedure p) = length p.parameters ≤ most_parameters
+HasFew (declaration.View v) = length v.parameters ≤ most_parameters
+
+few_at : (count : ℕ) (d : Declaration) → IsOrderlyAt count d → HasFew d
+few_at count (declaration.Callers line p) orderly = tt
+few_at count (declaration.Column c) orderly = tt
+few_at count (declaration.Procedure p) orderly = orderly
+few_at count (declaration.View v) orderly = orderly
+
+all_few : (count : ℕ) (ds : List Declaration) → IsOrderlyFrom count ds → AllByRecursion HasFew ds
+all_few count [] orderly = tt
+all_few count (d ∷ ds) orderly = (few_at count d orderly.0, all_few (count_behind count d) ds orderly.1)
 
 append_nil : {A : Type 0} (xs : List A) → xs ++ [] ≡ xs
 append_nil [] = refl
@@ -148,15 +167,31 @@ parameters_in nodes typed found (p ∷ ps) all is =
     (subst (AreKindsIn nodes) (same_ok (typed ++ (p.name, b.0) ∷ []) a.0 b.2) (all_more (λ (q : List ℕ × Kind). IsKindIn nodes q.1) typed (p.name, b.0) all (kind_in nodes p.values b.0 b.1)))
     a.2
 
+-- there are as many parameters as declared
+parameters_count : (nodes : List Node) (typed found : List (List ℕ × Kind)) (ps : List Parameter) → in_turn (resolve_parameter nodes) typed ps ≡ Ok found → length found ≡ length typed + length ps
+parameters_count nodes typed found [] is = let e = ap length (sym (same_ok typed found is)) in omega (arith, e)
+parameters_count nodes typed found (p ∷ ps) is =
+    let a = both_ok (resolve_parameter nodes typed p) (λ u. in_turn (resolve_parameter nodes) u ps) found is in
+    let b = both_ok (kind_of nodes p.values) (λ k. Ok (typed ++ (p.name, k) ∷ [])) a.0 a.1 in
+    let more : length a.0 ≡ length (typed ++ (p.name, b.0) ∷ []) = ap length (sym (same_ok (typed ++ (p.name, b.0) ∷ []) a.0 b.2)) in
+    let one = length-append typed ((p.name, b.0) ∷ []) in
+    let rest = parameters_count nodes a.0 found ps a.2 in
+    omega (arith, more, one, rest)
+
+parameters_of_declared : (nodes : List Node) (found : List (List ℕ × Kind)) (ps : List Parameter) → length ps ≤ most_parameters → parameters_of nodes ps ≡ Ok found → AreParametersIn nodes found
+parameters_of_declared nodes found ps few is =
+    let count = parameters_count nodes [] found ps is in
+    (omega (arith, few, count), parameters_in nodes [] found ps tt is)
+
 -- What is resolved is of these columns.
 record IsResolvedIn (nodes : List Node) (r : Resolved) : Type 0 where
   callers : column_of nodes r.callers ≡ Some column.Object
   contents : AllByRecursion (IsHeldIn nodes) r.contents
-  procedures : AllByRecursion (AreKindsIn nodes) r.procedures
-  views : AllByRecursion (AreKindsIn nodes) r.views
+  procedures : AllByRecursion (AreParametersIn nodes) r.procedures
+  views : AllByRecursion (AreParametersIn nodes) r.views
 
-step_in : (nodes : List Node) (r t : Resolved) (d : Declaration) → IsResolvedIn nodes r → resolve nodes r d ≡ Ok t → IsResolvedIn nodes t
-step_in nodes r t (declaration.Callers line p) all is =
+step_in : (nodes : List Node) (r t : Resolved) (d : Declaration) → HasFew d → IsResolvedIn nodes r → resolve nodes r d ≡ Ok t → IsResolvedIn nodes t
+step_in nodes r t (declaration.Callers line p) few all is =
     let a = both_ok (object_column_at nodes p) (λ c. Ok (record r { callers = c })) t is in
     let e : record r { callers = a.0 } ≡ t = same_ok _ t a.2 in
     subst (IsResolvedIn nodes) e (record {
@@ -165,7 +200,7 @@ step_in nodes r t (declaration.Callers line p) all is =
       procedures = all.procedures;
       views = all.views;
     })
-step_in nodes r t (declaration.Column c) all is =
+step_in nodes r t (declaration.Column c) few all is =
     let a = both_ok (column_content nodes (length r.contents) c.depth c.content) (λ x. Ok (record r { contents = r.contents ++ x ∷ [] })) t is in
     let e : record r { contents = r.contents ++ a.0 ∷ [] } ≡ t = same_ok _ t a.2 in
     subst (IsResolvedIn nodes) e (record {
@@ -174,23 +209,23 @@ step_in nodes r t (declaration.Column c) all is =
       procedures = all.procedures;
       views = all.views;
     })
-step_in nodes r t (declaration.Procedure p) all is =
+step_in nodes r t (declaration.Procedure p) few all is =
     let a = both_ok (parameters_of nodes p.parameters) (λ ps. Ok (record r { procedures = r.procedures ++ ps ∷ [] })) t is in
     let e : record r { procedures = r.procedures ++ a.0 ∷ [] } ≡ t = same_ok _ t a.2 in
     subst (IsResolvedIn nodes) e (record {
       callers = all.callers;
       contents = all.contents;
-      procedures = all_more (AreKindsIn nodes) r.procedures a.0 all.procedures (parameters_in nodes [] a.0 p.parameters tt a.1);
+      procedures = all_more (AreParametersIn nodes) r.procedures a.0 all.procedures (parameters_of_declared nodes a.0 p.parameters few a.1);
       views = all.views;
     })
-step_in nodes r t (declaration.View v) all is =
+step_in nodes r t (declaration.View v) few all is =
     let a = both_ok (parameters_of nodes v.parameters) (λ ps. Ok (record r { views = r.views ++ ps ∷ [] })) t is in
     let e : record r { views = r.views ++ a.0 ∷ [] } ≡ t = same_ok _ t a.2 in
     subst (IsResolvedIn nodes) e (record {
       callers = all.callers;
       contents = all.contents;
       procedures = all.procedures;
-      views = all_more (AreKindsIn nodes) r.views a.0 all.views (parameters_in nodes [] a.0 v.parameters tt a.1);
+      views = all_more (AreParametersIn nodes) r.views a.0 all.views (parameters_of_declared nodes a.0 v.parameters few a.1);
     })
 
 -- what the columns hold in the end, and that it is of these columns
@@ -198,14 +233,14 @@ record IsGrown (nodes : List Node) (r t : Resolved) (ds : List Declaration) : Ty
   sorts : map holds_objects t.contents ≡ map holds_objects r.contents ++ objects_in ds
   within : IsResolvedIn nodes t
 
-resolved_in : (nodes : List Node) (r t : Resolved) (ds : List Declaration) → AreFitting r.contents → IsResolvedIn nodes r → in_turn (resolve nodes) r ds ≡ Ok t → IsGrown nodes r t ds
-resolved_in nodes r t [] fitting all is =
+resolved_in : (nodes : List Node) (r t : Resolved) (ds : List Declaration) → AllByRecursion HasFew ds → AreFitting r.contents → IsResolvedIn nodes r → in_turn (resolve nodes) r ds ≡ Ok t → IsGrown nodes r t ds
+resolved_in nodes r t [] few fitting all is =
     let e = same_ok r t is in
     record { sorts = ap (λ (s : Resolved). map holds_objects s.contents) (sym e) ∙ sym (append_nil (map holds_objects r.contents)); within = subst (IsResolvedIn nodes) e all }
-resolved_in nodes r t (d ∷ ds) fitting all is =
+resolved_in nodes r t (d ∷ ds) few fitting all is =
     let a = both_ok (resolve nodes r d) (λ u. in_turn (resolve nodes) u ds) t is in
     let g = grows nodes r a.0 d fitting a.1 in
-    let more = resolved_in nodes a.0 t ds g.fitting (step_in nodes r a.0 d all a.1) a.2 in
+    let more = resolved_in nodes a.0 t ds few.1 g.fitting (step_in nodes r a.0 d few.0 all a.1) a.2 in
     record {
       sorts = more.sorts ∙ ap (λ bs. bs ++ objects_in ds) g.sorts ∙ append_assoc (map holds_objects r.contents) (objects_at d) (objects_in ds);
       within = more.within;
@@ -247,8 +282,8 @@ filled_forms [] (x ∷ xs) same = cc
 filled_forms (n ∷ nodes) [] same = cc
 filled_forms (n ∷ nodes) (x ∷ xs) same = ap (λ ys. form x ∷ ys) (filled_forms nodes xs (cc))
 
-filled_parameters : (nodes : List Node) (xs : List columns.Column) → AreAlike nodes xs → (ps : List (List ℕ × Kind)) → AreKindsIn nodes ps → AreKindsIn (filled nodes xs) ps
-filled_parameters nodes xs alike ps all = all_map (λ (p : List ℕ × Kind). IsKindIn nodes p.1) (λ (p : List ℕ × Kind). IsKindIn (filled nodes xs) p.1) (λ p within. filled_kind nodes xs p.1 alike within) ps all
+filled_parameters : (nodes : List Node) (xs : List columns.Column) → AreAlike nodes xs → (ps : List (List ℕ × Kind)) → AreParametersIn nodes ps → AreParametersIn (filled nodes xs) ps
+filled_parameters nodes xs alike ps all = (all.0, all_map (λ (p : List ℕ × Kind). IsKindIn nodes p.1) (λ (p : List ℕ × Kind). IsKindIn (filled nodes xs) p.1) (λ p within. filled_kind nodes xs p.1 alike within) ps all.1)
 
 first_object : (nodes : List Node) (bs : List Bool) → map is_object_node nodes ≡ true ∷ bs → column_of nodes 0 ≡ Some column.Object
 first_object [] bs same = cc
@@ -264,7 +299,7 @@ outlines_within d o orderly is =
     let sorts : map is_object_node nodes ≡ true ∷ objects_in d.declarations = named_sorts nothing_named a.0 d.declarations (refl, tt) orderly a.1 in
     let root = first_object nodes (objects_in d.declarations) sorts in
     let start : IsResolvedIn nodes nothing_resolved = record { callers = root; contents = (tt, tt); procedures = tt; views = tt } in
-    let grown = resolved_in nodes nothing_resolved b.0 d.declarations (tt, tt) start b.1 in
+    let grown = resolved_in nodes nothing_resolved b.0 d.declarations (all_few 1 d.declarations orderly) (tt, tt) start b.1 in
     let same : map holds_objects contents ≡ map is_object_node nodes = grown.sorts ∙ sym sorts in
     let alike = alike_sorts nodes contents same in
     subst (IsWithin d) e (record {
@@ -272,6 +307,7 @@ outlines_within d o orderly is =
       callers = filled_object nodes contents b.0.callers alike grown.within.callers;
       columns = all_filled (IsHeldIn (filled nodes contents)) nodes contents same
           (all_map (IsHeldIn nodes) (IsHeldIn (filled nodes contents)) (λ x within. filled_held nodes contents x alike within) contents grown.within.contents);
-      procedures = all_map (AreKindsIn nodes) (AreKindsIn (filled nodes contents)) (filled_parameters nodes contents alike) b.0.procedures grown.within.procedures;
-      views = all_map (AreKindsIn nodes) (AreKindsIn (filled nodes contents)) (filled_parameters nodes contents alike) b.0.views grown.within.views;
+      first_values = outline_firsts d.declarations a.0 b.0 orderly a.1 b.1;
+      procedures = all_map (AreParametersIn nodes) (AreParametersIn (filled nodes contents)) (filled_parameters nodes contents alike) b.0.procedures grown.within.procedures;
+      views = all_map (AreParametersIn nodes) (AreParametersIn (filled nodes contents)) (filled_parameters nodes contents alike) b.0.views grown.within.views;
     })

@@ -7,6 +7,7 @@ use Rattle.sheet_define_data.specs.declared.definition.Literal.{Literal}
 use Rattle.sheet_define_data.specs.declared.definition.Literal.TheVariants.{Number, Negative, Text, Truth}
 use Rattle.sheet_define_data.specs.declared.definition.Declaration.{Declaration}
 use Rattle.sheet_define_data.specs.declared.definition.Declaration.TheVariants as declaration
+use Rattle.sheet_types_rules.specs.Parameters.{most_parameters}
 
 -- the number behind a minus sign has no sign of its own
 abbrev pub IsUnsigned : Literal → Type 0
@@ -39,12 +40,12 @@ pub record IsOrderlyColumn (count : ℕ) (c : Column) : Type 0 where
   pub inside : c.depth < count
   pub unsigned : IsUnsignedFirst c.content
 
--- a declaration, where so many object columns are open
+-- a column where so many object columns are open; a procedure or a view has 16 parameters at most
 abbrev pub IsOrderlyAt : ℕ → Declaration → Type 0
 IsOrderlyAt count (declaration.Callers line path) = Unit {0}
 IsOrderlyAt count (declaration.Column c) = IsOrderlyColumn count c
-IsOrderlyAt count (declaration.Procedure p) = Unit {0}
-IsOrderlyAt count (declaration.View v) = Unit {0}
+IsOrderlyAt count (declaration.Procedure p) = length p.parameters ≤ most_parameters
+IsOrderlyAt count (declaration.View v) = length v.parameters ≤ most_parameters
 
 -- how many object columns are open inside a column of that depth
 abbrev pub count_inside : ℕ → Content → ℕ

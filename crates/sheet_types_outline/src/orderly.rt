@@ -7,6 +7,9 @@ use sheet_define_data::{Column, Content, Declaration, Definition, Literal};
 /// The greatest length of a column's name, in bytes.
 const LONGEST_NAME: usize = 63;
 
+/// The greatest number of parameters of a procedure or a view.
+const MOST_PARAMETERS: usize = 16;
+
 // Whether a number behind a minus sign has no sign of its own.
 fn is_unsigned(literal: &Literal) -> bool
     ensures { IsTrue result ↔ IsUnsigned literal.now }
@@ -42,7 +45,9 @@ fn is_orderly_at(count: usize, declaration: &Declaration) -> bool
 {
     match declaration {
         Declaration::Column(column) => is_orderly_column(count, column),
-        Declaration::Callers { .. } | Declaration::Procedure(_) | Declaration::View(_) => true,
+        Declaration::Procedure(procedure) => procedure.parameters.len() <= MOST_PARAMETERS,
+        Declaration::View(view) => view.parameters.len() <= MOST_PARAMETERS,
+        Declaration::Callers { .. } => true,
     }
 }
 
@@ -60,8 +65,8 @@ fn count_behind(count: usize, declaration: &Declaration) -> usize
 }
 
 /// Whether a definition is one that an outline is made of: names of columns have at most 63 bytes, each column stands in object
-/// columns that are open before it, and a number behind a minus sign has no sign of its own. So is every definition that a text
-/// stands for.
+/// columns that are open before it, a number behind a minus sign has no sign of its own, and procedures and views have at most 16
+/// parameters. So is every definition that a text stands for.
 pub fn is_orderly(definition: &Definition) -> bool
     ensures { IsTrue result ↔ IsOrderly definition.now.declarations }
 {

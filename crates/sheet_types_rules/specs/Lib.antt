@@ -3,3 +3,4 @@ pub mod Formulas
 pub mod Kinds
 pub mod Statements
 pub mod Views
+pub mod Parameters
