@@ -4,9 +4,9 @@ ghost use Rattle.sheet_state.specs.Kept.{IsKept};
 
 use sheet_columns::Columns;
 use sheet_state::{State, StateRefusal};
-use test_state::{columns, delete, make, refer};
 use std::alloc::Global;
 use std::test::Fail;
+use test_state::{columns, delete, make, refer};
 
 // A shelf with that many boxes.
 fn fill(columns: &Columns, state: &mut State, boxes: u32) -> Result<(), StateRefusal>
@@ -40,13 +40,13 @@ fn let_go(columns: &Columns, state: &mut State, object: u64, times: u32) -> Resu
     ensures { IsKept columns.now state.new }
 {
     for _ in 0..times {
-        turn(columns, state, object)?;
+        delete_and_undo(columns, state, object)?;
     }
     Ok(())
 }
 
 // Lets an object go and come back.
-fn turn(columns: &Columns, state: &mut State, object: u64) -> Result<(), StateRefusal>
+fn delete_and_undo(columns: &Columns, state: &mut State, object: u64) -> Result<(), StateRefusal>
     requires { IsKept columns.now state.old }
     ensures { IsKept columns.now state.new }
 {

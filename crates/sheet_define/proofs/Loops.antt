@@ -1,5 +1,6 @@
 -- The loops of the readers.
-use Rattle.std.proofs.Common.{◌≡◌, ℕ, zero, suc, ◌+◌, ◌-◌, ◌<◌, length, List, [], ◌∷◌, ◌++◌, Some, None, Ok, Err, true, false, refl, sym, ap, ◌∙◌, arith, append_assoc, append-nil}
+use Rattle.std.proofs.Common.{◌≡◌, ℕ, zero, suc, ◌+◌, ◌-◌, ◌<◌, length, List, [], ◌∷◌, ◌++◌, Some, None, Ok, Err, true, false, refl, sym, ap, ◌∙◌, arith}
+use Rattle.std.proofs.Common.{append_assoc, append-nil}
 use Rattle.std.specs.Prelude.{Option, Bool, if◌then◌else◌}
 use Rattle.sheet_syntax_trees.specs.declared.token.Token.{Token}
 use Rattle.sheet_syntax_trees.specs.declared.token.SyntaxRefusal.{SyntaxRefusal}
@@ -15,20 +16,10 @@ use Rattle.sheet_define_reading.specs.declared.mark.Mark.{Mark}
 use Rattle.sheet_define_reading.specs.declared.mark.Mark.TheVariants as mark
 use Rattle.sheet_define_reading.specs.Marks.{mark_of, same_mark}
 use Rattle.sheet_define_reading.specs.Reading as reading
-use Rattle.sheet_define_reading.specs.Reading.{Bounds, Reader, after, expect, alone, with_front, many, many_by, more_names, more_parameters, parameter, closed, last_step, step_by, statement_by, block, declarations, ended, turn_by, found_list, usual, whole_definition}
+use Rattle.sheet_define_reading.specs.Reading.{Bounds, Reader, after, expect, alone, with_front, many, many_by, more_names, more_parameters, parameter, closed}
+use Rattle.sheet_define_reading.specs.Reading.{last_step, step_by, statement_by, block, declarations, ended, turn_by, found_list, usual, whole_definition}
 use Rattle.sheet_define_reading.proofs.MarkLemmas.{same_self, other_mark}
-
--- a refusal is passed on
-pub passed : {X Y Z W : Type 0} (view : X → Y) (other : Z → W) (e : SyntaxRefusal) (told : Answer Y) (whole : Answer W) → Reads view (Err e) told → ((d : SyntaxRefusal) → told ≡ Err d → whole ≡ Err d) → Reads other (Err e) whole
-passed view other (BadToken k) told whole h more = more (BadToken k) h
-passed view other (NumberTooWide k) told whole h more = more (NumberTooWide k) h
-passed view other (Expected k) told whole h more = more (Expected k) h
-passed view other (TooNested k) told whole h more = more (TooNested k) h
-passed view other NoMemory told whole h more = tt
-
-pub no_tokens : (ts : List Token) → length ts ≡ 0 → ts ≡ []
-no_tokens [] e = refl
-no_tokens (t ∷ ts) e = absurd (omega arith)
+use Rattle.sheet_define_reading.proofs.WholeCompleteness.{none_before}
 
 -- ---- things before others
 
@@ -45,55 +36,66 @@ things_before a rest = ap (λ l. Ok (l, rest)) (append-nil a)
 
 -- ---- things of a kind up to a closing brace
 
-pub many_over : {A : Type 0} (end : ℕ) (one : Token → List Token → Mark → Answer (A × List Token)) (n : ℕ) (ts : List Token) → n ≡ 0 → many end one n ts ≡ Err (Expected (offset end ts))
+pub many_over : {A : Type 0} (end : ℕ) (one : Token → List Token → Mark → Answer (A × List Token)) (n : ℕ) (ts : List Token) → n ≡ 0 →
+    many end one n ts ≡ Err (Expected (offset end ts))
 unfolding many
 many_over end one n [] none = refl
 many_over end one n (t ∷ ts) none = rw none refl
 
-pub many_none : {A : Type 0} (end : ℕ) (one : Token → List Token → Mark → Answer (A × List Token)) (n : ℕ) (ts : List Token) → ts ≡ [] → many end one n ts ≡ Err (Expected end)
+pub many_none : {A : Type 0} (end : ℕ) (one : Token → List Token → Mark → Answer (A × List Token)) (n : ℕ) (ts : List Token) → ts ≡ [] →
+    many end one n ts ≡ Err (Expected end)
 unfolding many
 many_none end one n ts none = rw none refl
 
-many_closed : {A : Type 0} (end : ℕ) (one : Token → List Token → Mark → Answer (A × List Token)) (n m : ℕ) (t : Token) (ts us : List Token) → n ≡ suc m → ts ≡ t ∷ us → mark_of t.kind ≡ mark.CloseBrace → many end one n ts ≡ Ok ([], us)
+many_closed : {A : Type 0} (end : ℕ) (one : Token → List Token → Mark → Answer (A × List Token)) (n m : ℕ) (t : Token) (ts us : List Token) → n ≡ suc m →
+    ts ≡ t ∷ us → mark_of t.kind ≡ mark.CloseBrace → many end one n ts ≡ Ok ([], us)
 unfolding many
 many_closed end one n m t ts us more is closes = let test = same_self (mark_of t.kind) mark.CloseBrace closes in rw (more, is, test) refl
 
 -- the things so far, at the closing brace
-pub many_ended : {A : Type 0} (end : ℕ) (one : Token → List Token → Mark → Answer (A × List Token)) (n m : ℕ) (t : Token) (ts us : List Token) → n ≡ suc m → ts ≡ t ∷ us → mark_of t.kind ≡ mark.CloseBrace → (front : List A)
+pub many_ended : {A : Type 0} (end : ℕ) (one : Token → List Token → Mark → Answer (A × List Token)) (n m : ℕ) (t : Token) (ts us : List Token) → n ≡ suc m →
+    ts ≡ t ∷ us → mark_of t.kind ≡ mark.CloseBrace → (front : List A)
     → with_front front (many end one n ts) ≡ Ok (front, us)
 many_ended end one n m t ts us more is closes front = ap (with_front front) (many_closed end one n m t ts us more is closes) ∙ things_before front us
 
-many_by_one : {A : Type 0} (end : ℕ) (one : Token → List Token → Mark → Answer (A × List Token)) (n m : ℕ) (t : Token) (ts us : List Token) → n ≡ suc m → ts ≡ t ∷ us → (mark_of t.kind ≡ mark.CloseBrace → ⊥)
+many_by_one : {A : Type 0} (end : ℕ) (one : Token → List Token → Mark → Answer (A × List Token)) (n m : ℕ) (t : Token) (ts us : List Token) → n ≡ suc m →
+    ts ≡ t ∷ us → (mark_of t.kind ≡ mark.CloseBrace → ⊥)
     → many end one n ts ≡ (one t us (mark_of t.kind) >>= (λ x. with_front (x.0 ∷ []) (many end one m x.1)))
 unfolding many
 many_by_one end one n m t ts us more is opens = let test = other_mark (mark_of t.kind) mark.CloseBrace opens in rw (more, is, test) refl
 
-pub many_on : {A : Type 0} (end : ℕ) (one : Token → List Token → Mark → Answer (A × List Token)) (n m : ℕ) (t : Token) (ts us : List Token) (x : A) (rest : List Token) → n ≡ suc m → ts ≡ t ∷ us → (mark_of t.kind ≡ mark.CloseBrace → ⊥)
+pub many_on : {A : Type 0} (end : ℕ) (one : Token → List Token → Mark → Answer (A × List Token)) (n m : ℕ) (t : Token) (ts us : List Token) (x : A)
+    (rest : List Token) → n ≡ suc m → ts ≡ t ∷ us → (mark_of t.kind ≡ mark.CloseBrace → ⊥)
     → one t us (mark_of t.kind) ≡ Ok (x, rest) → (front : List A) → with_front (front ++ x ∷ []) (many end one m rest) ≡ with_front front (many end one n ts)
 many_on end one n m t ts us x rest more is opens e front =
     sym (both_before front (x ∷ []) (many end one m rest))
     ∙ ap (with_front front) (sym (many_by_one end one n m t ts us more is opens ∙ ap (λ r. r >>= (λ x. with_front (x.0 ∷ []) (many end one m x.1))) e))
 
-pub many_stopped : {A : Type 0} (end : ℕ) (one : Token → List Token → Mark → Answer (A × List Token)) (n m : ℕ) (t : Token) (ts us : List Token) (d : SyntaxRefusal) → n ≡ suc m → ts ≡ t ∷ us → (mark_of t.kind ≡ mark.CloseBrace → ⊥)
+pub many_stopped : {A : Type 0} (end : ℕ) (one : Token → List Token → Mark → Answer (A × List Token)) (n m : ℕ) (t : Token) (ts us : List Token)
+    (d : SyntaxRefusal) → n ≡ suc m → ts ≡ t ∷ us → (mark_of t.kind ≡ mark.CloseBrace → ⊥)
     → one t us (mark_of t.kind) ≡ Err d → (front : List A) → with_front front (many end one n ts) ≡ Err d
-many_stopped end one n m t ts us d more is opens e front = ap (with_front front) (many_by_one end one n m t ts us more is opens ∙ ap (λ r. r >>= (λ x. with_front (x.0 ∷ []) (many end one m x.1))) e)
+many_stopped end one n m t ts us d more is opens e front =
+    ap (with_front front) (many_by_one end one n m t ts us more is opens ∙ ap (λ r. r >>= (λ x. with_front (x.0 ∷ []) (many end one m x.1))) e)
 
 pub one_less : (n k : ℕ) → k < n → n - k ≡ suc (n - (k + 1))
 one_less n k h = omega arith
 
 -- ---- blocks
 
-pub block_refused : (s : Bounds) (n : ℕ) (ts : List Token) (d : SyntaxRefusal) → ◌≡◌ {A = Answer (List Token)} (expect s.end mark.OpenBrace ts) (Err d) → block s n ts ≡ Err d
+pub block_refused : (s : Bounds) (n : ℕ) (ts : List Token) (d : SyntaxRefusal) → ◌≡◌ {A = Answer (List Token)} (expect s.end mark.OpenBrace ts) (Err d) →
+    block s n ts ≡ Err d
 unfolding block
 block_refused s zero ts d e = ap (λ r. r >>= (λ rest. Err (TooNested (offset s.end ts)))) e
 block_refused s (suc n) ts d e = ap (λ r. r >>= (λ a. many s.end (statement_by s (λ rest. block s n rest)) (length a) a)) e
 
-pub block_over : (s : Bounds) (n : ℕ) (ts rest : List Token) → n ≡ 0 → ◌≡◌ {A = Answer (List Token)} (expect s.end mark.OpenBrace ts) (Ok rest) → block s n ts ≡ Err (TooNested (offset s.end ts))
+pub block_over : (s : Bounds) (n : ℕ) (ts rest : List Token) → n ≡ 0 → ◌≡◌ {A = Answer (List Token)} (expect s.end mark.OpenBrace ts) (Ok rest) →
+    block s n ts ≡ Err (TooNested (offset s.end ts))
 unfolding block
 block_over s zero ts rest none e = ap (λ r. r >>= (λ rest. Err (TooNested (offset s.end ts)))) e
 block_over s (suc n) ts rest none e = absurd (omega arith)
 
-pub block_on : (s : Bounds) (n m : ℕ) (ts a : List Token) → n ≡ suc m → ◌≡◌ {A = Answer (List Token)} (expect s.end mark.OpenBrace ts) (Ok a) → block s n ts ≡ many s.end (statement_by s (λ rest. block s m rest)) (length a) a
+pub block_on : (s : Bounds) (n m : ℕ) (ts a : List Token) → n ≡ suc m → ◌≡◌ {A = Answer (List Token)} (expect s.end mark.OpenBrace ts) (Ok a) →
+    block s n ts ≡ many s.end (statement_by s (λ rest. block s m rest)) (length a) a
 unfolding block
 block_on s n m ts a more e = rw more (ap (λ r. r >>= (λ a. many s.end (statement_by s (λ rest. block s m rest)) (length a) a)) e)
 
@@ -118,15 +120,19 @@ names_end end (d ∷ []) e = let other = after_cond (same_mark (mark_of d.kind) 
 names_end end (d ∷ t ∷ ts) e = let other = after_cond (same_mark (mark_of d.kind) mark.Dot) (t ∷ ts) e in rw other refl
 
 -- the names behind a dot
-dot_names : (end : ℕ) (d : Token) (ts : List Token) → same_mark (mark_of d.kind) mark.Dot ≡ true → more_names end (d ∷ ts) ≡ (name_at end ts >>= (λ name. with_front (name.0 ∷ []) (more_names end name.1)))
+dot_names : (end : ℕ) (d : Token) (ts : List Token) → same_mark (mark_of d.kind) mark.Dot ≡ true →
+    more_names end (d ∷ ts) ≡ (name_at end ts >>= (λ name. with_front (name.0 ∷ []) (more_names end name.1)))
 unfolding more_names
 dot_names end d [] test = rw test refl
 dot_names end d (t ∷ ts) test = rw test (by (name_of t.kind)) where
-  by : (o : Option (List ℕ)) → (or_expected t.start o >>= (λ name. with_front (name ∷ []) (more_names end ts))) ≡ (with_rest ts (or_expected t.start o) >>= (λ name. with_front (name.0 ∷ []) (more_names end name.1)))
+  by : (o : Option (List ℕ)) →
+      (or_expected t.start o >>= (λ name. with_front (name ∷ []) (more_names end ts))) ≡ (with_rest ts (or_expected t.start o) >>= (λ name.
+      with_front (name.0 ∷ []) (more_names end name.1)))
   by (Some name) = refl
   by None = refl
 
-pub names_more : (end : ℕ) (ts us : List Token) → after mark.Dot ts ≡ Some us → more_names end ts ≡ (name_at end us >>= (λ name. with_front (name.0 ∷ []) (more_names end name.1)))
+pub names_more : (end : ℕ) (ts us : List Token) → after mark.Dot ts ≡ Some us →
+    more_names end ts ≡ (name_at end us >>= (λ name. with_front (name.0 ∷ []) (more_names end name.1)))
 names_more end ts us e = let (d, is, test) = after_is mark.Dot ts us e in ap (more_names end) is ∙ dot_names end d us test
 
 pub name_shorter : (end : ℕ) (ts : List Token) (x : List ℕ × List Token) → name_at end ts ≡ Ok x → length x.1 < length ts
@@ -143,7 +149,8 @@ pub parameters_over : (s : Bounds) (room : ℕ) (ts : List Token) → room ≡ 0
 unfolding more_parameters
 parameters_over s room ts e = rw e refl
 
-pub parameters_more : (s : Bounds) (n room : ℕ) (ts us : List Token) → n ≡ suc room → after mark.Comma ts ≡ Some us → more_parameters s n ts ≡ (parameter s us >>= (λ p. with_front (p.0 ∷ []) (more_parameters s room p.1)))
+pub parameters_more : (s : Bounds) (n room : ℕ) (ts us : List Token) → n ≡ suc room → after mark.Comma ts ≡ Some us →
+    more_parameters s n ts ≡ (parameter s us >>= (λ p. with_front (p.0 ∷ []) (more_parameters s room p.1)))
 unfolding more_parameters
 parameters_more s n room ts us more e = rw (more, e) refl
 
@@ -153,7 +160,8 @@ pub last_over : (s : Bounds) (n at line : ℕ) (f : Formed) (ts : List Token) �
 unfolding last_step
 last_over s n at line f ts e = rw e refl
 
-pub last_by : (s : Bounds) (n m at line : ℕ) (f : Formed) (ts : List Token) → n ≡ suc m → last_step s n at line f ts ≡ (expect s.end mark.Dot ts >>= (λ a. step_by s at line f a (alone a) (λ g rest. last_step s m at line g rest)))
+pub last_by : (s : Bounds) (n m at line : ℕ) (f : Formed) (ts : List Token) → n ≡ suc m →
+    last_step s n at line f ts ≡ (expect s.end mark.Dot ts >>= (λ a. step_by s at line f a (alone a) (λ g rest. last_step s m at line g rest)))
 unfolding last_step
 last_by s n m at line f ts e = rw e refl
 
@@ -167,16 +175,14 @@ pub over_at : (s : Bounds) (b n k : ℕ) (t : Token) (ts us : List Token) → n 
 unfolding declarations
 over_at s b n k t ts us none e = rw (none, e) refl
 
-pub turn_at : (s : Bounds) (b n m k : ℕ) (t : Token) (ts us : List Token) → n ≡ suc m → ts ≡ t ∷ us → declarations s b n k ts ≡ (turn_by s b k t us (mark_of t.kind) >>= (λ x. reading.all_before (found_list x.0) (declarations s b m x.1 x.2)))
+pub turn_at : (s : Bounds) (b n m k : ℕ) (t : Token) (ts us : List Token) → n ≡ suc m → ts ≡ t ∷ us →
+    declarations s b n k ts ≡ (turn_by s b k t us (mark_of t.kind) >>= (λ x. reading.all_before (found_list x.0) (declarations s b m x.1 x.2)))
 unfolding declarations
 turn_at s b n m k t ts us more e = rw (more, e) refl
 
-pub none_before : (r : Answer (List Declaration)) → reading.all_before [] r ≡ r
-none_before (Ok ds) = refl
-none_before (Err e) = refl
-
 -- before the first turn
-pub whole_begun : (end : ℕ) (ts : List Token) (front : List Declaration) → front ≡ [] → reading.all_before front (declarations (usual end) 16 (length ts - 0) 0 ts) ≡ whole_definition end ts
+pub whole_begun : (end : ℕ) (ts : List Token) (front : List Declaration) → front ≡ [] →
+    reading.all_before front (declarations (usual end) 16 (length ts - 0) 0 ts) ≡ whole_definition end ts
 unfolding whole_definition
 whole_begun end ts front none = let all : length ts - 0 ≡ length ts = omega arith in rw (none, all) (none_before (declarations (usual end) 16 (length ts) 0 ts))
 
@@ -184,21 +190,29 @@ pub declared_before : (a b : List Declaration) (r : Answer (List Declaration)) �
 declared_before a b (Ok ds) = ap Ok (sym (append_assoc a b ds))
 declared_before a b (Err e) = refl
 
-pub closed_ok : (s : Bounds) (list : List Parameter) (ts rest : List Token) → ◌≡◌ {A = Answer (List Token)} (expect s.end mark.Close ts) (Ok rest) → with_front list (closed s ts) ≡ Ok (list, rest)
+pub closed_ok : (s : Bounds) (list : List Parameter) (ts rest : List Token) → ◌≡◌ {A = Answer (List Token)} (expect s.end mark.Close ts) (Ok rest) →
+    with_front list (closed s ts) ≡ Ok (list, rest)
 closed_ok s list ts rest e = ap (λ r. with_front list (r >>= (λ rest. Ok ([], rest)))) e ∙ things_before list rest
 
-pub last_ok : (s : Bounds) (n m at line : ℕ) (f : Formed) (ts a : List Token) → n ≡ suc m → ◌≡◌ {A = Answer (List Token)} (expect s.end mark.Dot ts) (Ok a) → last_step s n at line f ts ≡ step_by s at line f a (alone a) (λ g rest. last_step s m at line g rest)
-last_ok s n m at line f ts a more e = last_by s n m at line f ts more ∙ ap (λ r. r >>= (λ a. step_by s at line f a (alone a) (λ g rest. last_step s m at line g rest))) e
+pub last_ok : (s : Bounds) (n m at line : ℕ) (f : Formed) (ts a : List Token) → n ≡ suc m → ◌≡◌ {A = Answer (List Token)} (expect s.end mark.Dot ts) (Ok a) →
+    last_step s n at line f ts ≡ step_by s at line f a (alone a) (λ g rest. last_step s m at line g rest)
+last_ok s n m at line f ts a more e =
+    last_by s n m at line f ts more ∙ ap (λ r. r >>= (λ a. step_by s at line f a (alone a) (λ g rest. last_step s m at line g rest))) e
 
-pub last_refused : (s : Bounds) (n m at line : ℕ) (f : Formed) (ts : List Token) (d : SyntaxRefusal) → n ≡ suc m → ◌≡◌ {A = Answer (List Token)} (expect s.end mark.Dot ts) (Err d) → last_step s n at line f ts ≡ Err d
-last_refused s n m at line f ts d more e = last_by s n m at line f ts more ∙ ap (λ r. r >>= (λ a. step_by s at line f a (alone a) (λ g rest. last_step s m at line g rest))) e
+pub last_refused : (s : Bounds) (n m at line : ℕ) (f : Formed) (ts : List Token) (d : SyntaxRefusal) → n ≡ suc m →
+    ◌≡◌ {A = Answer (List Token)} (expect s.end mark.Dot ts) (Err d) → last_step s n at line f ts ≡ Err d
+last_refused s n m at line f ts d more e =
+    last_by s n m at line f ts more ∙ ap (λ r. r >>= (λ a. step_by s at line f a (alone a) (λ g rest. last_step s m at line g rest))) e
 
-pub step_lone : (s : Bounds) (at line : ℕ) (f : Formed) (a : List Token) (more : Formed → Reader Target) (x : List ℕ × List Token) → alone a ≡ Some x → step_by s at line f a (alone a) more ≡ Ok (record { line = line; object = Some f.tree; column = x.0 }, x.1)
+pub step_lone : (s : Bounds) (at line : ℕ) (f : Formed) (a : List Token) (more : Formed → Reader Target) (x : List ℕ × List Token) → alone a ≡ Some x →
+    step_by s at line f a (alone a) more ≡ Ok (record { line = line; object = Some f.tree; column = x.0 }, x.1)
 step_lone s at line f a more x e = ap (λ o. step_by s at line f a o more) e
 
-pub step_cut : (s : Bounds) (at line : ℕ) (f : Formed) (a : List Token) (more : Formed → Reader Target) → a ≡ [] → step_by s at line f a (alone a) more ≡ Err (Expected s.end)
+pub step_cut : (s : Bounds) (at line : ℕ) (f : Formed) (a : List Token) (more : Formed → Reader Target) → a ≡ [] →
+    step_by s at line f a (alone a) more ≡ Err (Expected s.end)
 step_cut s at line f a more none = ap (λ l. step_by s at line f l (alone l) more) none
 
-pub step_on : (s : Bounds) (at line : ℕ) (f : Formed) (a : List Token) (more : Formed → Reader Target) (t : Token) (us : List Token) → alone a ≡ None → a ≡ t ∷ us
+pub step_on : (s : Bounds) (at line : ℕ) (f : Formed) (a : List Token) (more : Formed → Reader Target) (t : Token) (us : List Token) → alone a ≡ None →
+    a ≡ t ∷ us
     → step_by s at line f a (alone a) more ≡ (or_expected t.start (step_of line f.tree t.kind) >>= (λ form. made s.depth at form f.depth >>= (λ g. more g us)))
 step_on s at line f a more t us lone is = ap (λ o. step_by s at line f a o more) lone ∙ ap (λ l. step_by s at line f l None more) is

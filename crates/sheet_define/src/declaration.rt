@@ -96,7 +96,7 @@ fn outermost<'a>(
 
 // One turn, at a token of that mark, where so many object columns are open.
 #[tactic(auto, unfolding(sheet_define_reading::specs::Reading::turn_by))]
-fn turn<'a>(
+fn declaration_or_end<'a>(
     alloc: Global,
     open: u32,
     mark: Mark,
@@ -156,7 +156,7 @@ pub(crate) fn declarations(
         let Some((token, behind)) = remaining.split_first() else {
             return ended(list, open, text_length);
         };
-        let (found, inside, others) = match turn(
+        let (found, inside, others) = match declaration_or_end(
             alloc,
             open,
             mark_of(&token.kind),

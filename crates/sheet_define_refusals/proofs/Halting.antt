@@ -1,5 +1,6 @@
 -- Where a reader stops, the tokens before begin what it reads; lemmas that lift this from a part to the whole.
-use Rattle.std.proofs.Common.{◌≡◌, ℕ, ◌+◌, ◌-◌, ◌<◌, ◌≤◌, max, List, [], ◌∷◌, ◌++◌, true, false, Some, None, Ok, Err, refl, sym, ap, ◌∙◌, subst, arith, append_assoc, inl, inr}
+use Rattle.std.proofs.Common.{◌≡◌, ℕ, ◌+◌, ◌-◌, ◌<◌, ◌≤◌, max, List, [], ◌∷◌, ◌++◌, true, false, Some, None, Ok, Err, refl, sym, ap, ◌∙◌, subst, arith}
+use Rattle.std.proofs.Common.{append_assoc, inl, inr}
 use Rattle.std.specs.Prelude.{Bool, Option, if◌then◌else◌, ◌⊎◌}
 use Rattle.sheet_syntax_trees.specs.declared.token.Token.{Token}
 use Rattle.sheet_syntax_trees.specs.declared.token.TokenKind.TheVariants as kind
@@ -8,7 +9,7 @@ use Rattle.sheet_syntax_trees.specs.declared.token.SyntaxRefusal.TheVariants.{Ex
 use Rattle.sheet_syntax_trees.specs.declared.tree.Tree.{Tree}
 use Rattle.sheet_syntax_trees.specs.Grammar.{Produces, Form, expression}
 use Rattle.sheet_syntax_trees.specs.Reading.{Answer, ◌>>=◌, offset, or_expected, with_rest, name_of, name_at, formula_at}
-use Rattle.sheet_syntax_trees.proofs.Answering.{name_some}
+use Rattle.sheet_syntax_trees.proofs.Answering.{name_some, err_then}
 use Rattle.sheet_define_reading.specs.declared.mark.Mark.{Mark}
 use Rattle.sheet_define_reading.specs.Marks.{mark_of, mark_rank, same_mark}
 use Rattle.sheet_define_reading.specs.Reading as reading
@@ -21,7 +22,6 @@ use Rattle.sheet_syntax_trees.proofs.Contexts.{zeros, a_zero, spelled as dummy}
 use Rattle.sheet_syntax_trees.proofs.Soundness.{nonempty}
 use Rattle.sheet_syntax_trees.proofs.Stopping.{Stop, waits, crowded, deep, formula_stops}
 use Rattle.sheet_define_reading.proofs.Soundness.{formula_sound, limits}
-use Rattle.sheet_define_refusals.proofs.Locality.{err_then}
 use Rattle.sheet_define_refusals.proofs.Moving.{Moved, FormOf, Expr, Aim, form_moved}
 
 -- some tokens that are such a piece before any others
@@ -39,9 +39,16 @@ pub record Context (P Q : ℕ → List Token → List Token → Type 0) (front :
   pub whole : (m : ℕ) → least ≤ m → (us vs : List Token) → Q m us (more ++ vs) → P (m + blocks) (front ++ us) vs
 
 -- with no block opened
-pub flat : (P Q : ℕ → List Token → List Token → Type 0) (front more : List Token) (least : ℕ) → ((m : ℕ) → least ≤ m → (us vs : List Token) → Q m us (more ++ vs) → P m (front ++ us) vs) → Context P Q front
+pub flat : (P Q : ℕ → List Token → List Token → Type 0) (front more : List Token) (least : ℕ) →
+    ((m : ℕ) → least ≤ m → (us vs : List Token) → Q m us (more ++ vs) → P m (front ++ us) vs) → Context P Q front
 flat P Q front more least h =
-    record { more = more; least = least; blocks = 0; whole = λ m some us vs q. subst (λ k. P k (front ++ us) vs) (let e : m ≡ m + 0 = omega arith in e) (h m some us vs q) }
+    record {
+      more = more;
+      least = least;
+      blocks = 0;
+      whole = λ m some us vs q. subst (λ k. P k (front ++ us) vs) (let e : m ≡ m + 0 = omega arith in
+          e) (h m some us vs q);
+    }
 
 -- why tokens are refused at that offset: for what stands there, for what is nested too deeply in a formula or a target,
 -- or for a block of which that is known
@@ -71,16 +78,21 @@ context_then P Q R f g c d =
           let sum : (m + d.blocks) + c.blocks ≡ m + (d.blocks + c.blocks) = omega arith in
           subst (λ l. P (m + (d.blocks + c.blocks)) l vs) (sym (append_assoc f g us))
           (subst (λ k. P k (f ++ (g ++ us)) vs) sum
-          (c.whole (m + d.blocks) (omega (arith, some)) (g ++ us) vs (d.whole m (omega (arith, some)) us (c.more ++ vs) (subst (λ l. R m us l) (append_assoc d.more c.more vs) r))));
+          (c.whole (m + d.blocks) (omega (arith, some)) (g ++ us) vs
+          (d.whole m (omega (arith, some)) us (c.more ++ vs) (subst (λ l. R m us l) (append_assoc d.more c.more vs) r))));
     }
 
-lifted_cause : (P Q : ℕ → List Token → List Token → Type 0) (B : ℕ → Type 0) (end : ℕ) (front us ts : List Token) (e : SyntaxRefusal) (at : ℕ) → Context P Q front → ts ≡ front ++ us → Cause Q B end us e at → Cause P B end ts e at
+lifted_cause : (P Q : ℕ → List Token → List Token → Type 0) (B : ℕ → Type 0) (end : ℕ) (front us ts : List Token) (e : SyntaxRefusal) (at : ℕ) →
+    Context P Q front → ts ≡ front ++ us → Cause Q B end us e at → Cause P B end ts e at
 lifted_cause P Q B end front us ts e at c split (expected is) = expected is
-lifted_cause P Q B end front us ts e at c split (formula f rest here d nests is) = formula (front ++ f) rest (split ∙ ap (λ l. front ++ l) here ∙ sym (append_assoc front f rest)) (context_then P Q Expr front f c d) nests is
-lifted_cause P Q B end front us ts e at c split (target f rest here d nests is) = target (front ++ f) rest (split ∙ ap (λ l. front ++ l) here ∙ sym (append_assoc front f rest)) (context_then P Q Aim front f c d) nests is
+lifted_cause P Q B end front us ts e at c split (formula f rest here d nests is) =
+    formula (front ++ f) rest (split ∙ ap (λ l. front ++ l) here ∙ sym (append_assoc front f rest)) (context_then P Q Expr front f c d) nests is
+lifted_cause P Q B end front us ts e at c split (target f rest here d nests is) =
+    target (front ++ f) rest (split ∙ ap (λ l. front ++ l) here ∙ sym (append_assoc front f rest)) (context_then P Q Aim front f c d) nests is
 lifted_cause P Q B end front us ts e at c split (a_block b is) = a_block b is
 
-pub lifted : (P Q : ℕ → List Token → List Token → Type 0) (B : ℕ → Type 0) (end : ℕ) (front us ts : List Token) (e : SyntaxRefusal) → Context P Q front → ts ≡ front ++ us → Halt Q B end us e → Halt P B end ts e
+pub lifted : (P Q : ℕ → List Token → List Token → Type 0) (B : ℕ → Type 0) (end : ℕ) (front us ts : List Token) (e : SyntaxRefusal) → Context P Q front →
+    ts ≡ front ++ us → Halt Q B end us e → Halt P B end ts e
 lifted P Q B end front us ts e c split h =
     record {
       front = front ++ h.front;
@@ -90,23 +102,28 @@ lifted P Q B end front us ts e c split h =
       least = max c.least h.least + c.blocks;
       whole = λ m some vs.
           let rest : (m - c.blocks) + c.blocks ≡ m = omega (arith, some) in
-          subst (λ l. P m l vs) (ap (λ l. front ++ (h.front ++ l)) (sym (append_assoc h.more c.more vs)) ∙ sym (append_assoc front h.front ((h.more ++ c.more) ++ vs)))
+          subst (λ l. P m l vs) (ap (λ l. front ++ (h.front ++ l)) (sym (append_assoc h.more c.more vs))
+          ∙ sym (append_assoc front h.front ((h.more ++ c.more) ++ vs)))
           (subst (λ k. P k (front ++ (h.front ++ (h.more ++ (c.more ++ vs)))) vs) rest
-          (c.whole (m - c.blocks) (omega (arith, some)) (h.front ++ (h.more ++ (c.more ++ vs))) vs (h.whole (m - c.blocks) (omega (arith, some)) (c.more ++ vs))));
+          (c.whole (m - c.blocks) (omega (arith, some)) (h.front ++ (h.more ++ (c.more ++ vs))) vs
+          (h.whole (m - c.blocks) (omega (arith, some)) (c.more ++ vs))));
       cause = lifted_cause P Q B end front us ts e (offset end h.rest) c split h.cause;
     }
 
 -- with other knowledge of blocks
-pub known : (P : ℕ → List Token → List Token → Type 0) (B D : ℕ → Type 0) (end : ℕ) (ts : List Token) (e : SyntaxRefusal) → ((at : ℕ) → B at → D at) → Halt P B end ts e → Halt P D end ts e
-known P B D end ts e h s = record { front = s.front; rest = s.rest; split = s.split; more = s.more; least = s.least; whole = s.whole; cause = by (offset end s.rest) s.cause } where
-  by : (at : ℕ) → Cause P B end ts e at → Cause P D end ts e at
-  by at (expected is) = expected is
-  by at (formula f rest here d nests is) = formula f rest here d nests is
-  by at (target f rest here d nests is) = target f rest here d nests is
-  by at (a_block b is) = a_block (h at b) is
+pub known : (P : ℕ → List Token → List Token → Type 0) (B D : ℕ → Type 0) (end : ℕ) (ts : List Token) (e : SyntaxRefusal) → ((at : ℕ) → B at → D at) →
+    Halt P B end ts e → Halt P D end ts e
+known P B D end ts e h s =
+    record { front = s.front; rest = s.rest; split = s.split; more = s.more; least = s.least; whole = s.whole; cause = by (offset end s.rest) s.cause } where
+      by : (at : ℕ) → Cause P B end ts e at → Cause P D end ts e at
+      by at (expected is) = expected is
+      by at (formula f rest here d nests is) = formula f rest here d nests is
+      by at (target f rest here d nests is) = target f rest here d nests is
+      by at (a_block b is) = a_block (h at b) is
 
 -- at the first token something else could stand
-pub halt_here : (P : ℕ → List Token → List Token → Type 0) (B : ℕ → Type 0) (end : ℕ) (ts : List Token) (e : SyntaxRefusal) → Sample P → e ≡ Expected (offset end ts) → Halt P B end ts e
+pub halt_here : (P : ℕ → List Token → List Token → Type 0) (B : ℕ → Type 0) (end : ℕ) (ts : List Token) (e : SyntaxRefusal) → Sample P →
+    e ≡ Expected (offset end ts) → Halt P B end ts e
 halt_here P B end ts e s is = record { front = []; rest = ts; split = refl; more = s.tokens; least = s.least; whole = s.whole; cause = expected is }
 
 -- a piece behind a token, and behind another piece
@@ -119,7 +136,8 @@ After Q P m xs ws = (ys : List Token) → Q m ys xs → P m ys ws
 pub behind_token : (P : ℕ → List Token → List Token → Type 0) (t : Token) → Context P (Behind t P) (t ∷ [])
 behind_token P t = flat P (Behind t P) (t ∷ []) [] 0 (λ m some us vs r. r)
 
-pub mark_err : {C : Type 0} (end : ℕ) (m : Mark) → 0 < mark_rank m → (ts : List Token) (k : List Token → Answer C) (e : SyntaxRefusal) → ◌≡◌ {A = Answer C} (expect end m ts >>= k) (Err e)
+pub mark_err : {C : Type 0} (end : ℕ) (m : Mark) → 0 < mark_rank m → (ts : List Token) (k : List Token → Answer C) (e : SyntaxRefusal) →
+    ◌≡◌ {A = Answer C} (expect end m ts >>= k) (Err e)
     → (e ≡ Expected (offset end ts)) ⊎ ((t : Token) × (us : List Token) × (ts ≡ t ∷ us) × (t.kind ≡ spelling m) × (◌≡◌ {A = Answer C} (k us) (Err e)))
 mark_err end m some [] k e h = inl cc
 mark_err {C} end m some (t ∷ ts) k e h = by (same_mark (mark_of t.kind) m) refl h where
@@ -128,39 +146,49 @@ mark_err {C} end m some (t ∷ ts) k e h = by (same_mark (mark_of t.kind) m) ref
   by true is h = inr (t, ts, refl, spelled t.kind m (same_is (mark_of t.kind) m is) some, h)
   by false is h = inl cc
 
-pub name_err : {C : Type 0} (end : ℕ) (ts : List Token) (k : List ℕ × List Token → Answer C) (e : SyntaxRefusal) → ◌≡◌ {A = Answer C} (name_at end ts >>= k) (Err e)
-    → (e ≡ Expected (offset end ts)) ⊎ ((t : Token) × (name : List ℕ) × (us : List Token) × (ts ≡ t ∷ us) × (t.kind ≡ kind.Name name) × (◌≡◌ {A = Answer C} (k (name, us)) (Err e)))
+pub name_err : {C : Type 0} (end : ℕ) (ts : List Token) (k : List ℕ × List Token → Answer C) (e : SyntaxRefusal) →
+    ◌≡◌ {A = Answer C} (name_at end ts >>= k) (Err e)
+    → (e ≡ Expected (offset end ts)) ⊎
+    ((t : Token) × (name : List ℕ) × (us : List Token) × (ts ≡ t ∷ us) × (t.kind ≡ kind.Name name) × (◌≡◌ {A = Answer C} (k (name, us)) (Err e)))
 name_err end [] k e h = inl cc
 name_err {C} end (t ∷ ts) k e h = by (name_of t.kind) refl h where
   by : (o : Option (List ℕ)) → name_of t.kind ≡ o → ◌≡◌ {A = Answer C} (with_rest ts (or_expected t.start o) >>= k) (Err e)
-      → (e ≡ Expected t.start) ⊎ ((u : Token) × (name : List ℕ) × (us : List Token) × (t ∷ ts ≡ u ∷ us) × (u.kind ≡ kind.Name name) × (◌≡◌ {A = Answer C} (k (name, us)) (Err e)))
+      → (e ≡ Expected t.start) ⊎ ((u : Token) × (name : List ℕ) × (us : List Token) × (t ∷ ts ≡ u ∷ us) × (u.kind ≡ kind.Name name) ×
+      (◌≡◌ {A = Answer C} (k (name, us)) (Err e)))
   by (Some name) is h = inr (t, name, ts, refl, name_some t.kind name is, h)
   by None is h = inl cc
 
 -- a piece, and what stands behind it
-pub halt_part : (P Q : ℕ → List Token → List Token → Type 0) (B : ℕ → Type 0) {A C : Type 0} (end : ℕ) (ts : List Token) (r : Answer (A × List Token)) (k : A × List Token → Answer C) (e : SyntaxRefusal) → ◌≡◌ {A = Answer C} (r >>= k) (Err e) → Sample (After Q P)
-    → (◌≡◌ {A = Answer (A × List Token)} r (Err e) → Halt Q B end ts e) → ((x : A) (us : List Token) → ◌≡◌ {A = Answer (A × List Token)} r (Ok (x, us)) → Moved Q ts us)
-    → ((x : A) (us : List Token) → ◌≡◌ {A = Answer (A × List Token)} r (Ok (x, us)) → ◌≡◌ {A = Answer C} (k (x, us)) (Err e) → Halt (After Q P) B end us e) → Halt P B end ts e
+pub halt_part : (P Q : ℕ → List Token → List Token → Type 0) (B : ℕ → Type 0) {A C : Type 0} (end : ℕ) (ts : List Token) (r : Answer (A × List Token))
+    (k : A × List Token → Answer C) (e : SyntaxRefusal) → ◌≡◌ {A = Answer C} (r >>= k) (Err e) → Sample (After Q P)
+    → (◌≡◌ {A = Answer (A × List Token)} r (Err e) → Halt Q B end ts e) →
+    ((x : A) (us : List Token) → ◌≡◌ {A = Answer (A × List Token)} r (Ok (x, us)) → Moved Q ts us)
+    → ((x : A) (us : List Token) → ◌≡◌ {A = Answer (A × List Token)} r (Ok (x, us)) → ◌≡◌ {A = Answer C} (k (x, us)) (Err e) → Halt (After Q P) B end us e) →
+    Halt P B end ts e
 halt_part P Q B end ts r k e h s inner moved next =
     elim (err_then r k e h) [
       | inl is ↦ lifted P Q B end [] ts ts e (flat P Q [] s.tokens s.least (λ m some us vs q. s.whole m some vs us q)) refl (inner is)
       | inr (x, ex, more) ↦
           (let q = moved x.0 x.1 ex in
-          lifted P (After Q P) B end q.front x.1 ts e (flat P (After Q P) q.front [] q.least (λ m some us vs r. r (q.front ++ us) (q.again m some us))) q.split (next x.0 x.1 ex more))
+          lifted P (After Q P) B end q.front x.1 ts e (flat P (After Q P) q.front [] q.least (λ m some us vs r. r (q.front ++ us) (q.again m some us))) q.split
+          (next x.0 x.1 ex more))
     ]
 
 -- a piece that ends the whole
-pub halt_as : (P Q : ℕ → List Token → List Token → Type 0) (B : ℕ → Type 0) (end : ℕ) (ts : List Token) (e : SyntaxRefusal) → ((m : ℕ) (us vs : List Token) → Q m us vs → P m us vs) → Halt Q B end ts e → Halt P B end ts e
+pub halt_as : (P Q : ℕ → List Token → List Token → Type 0) (B : ℕ → Type 0) (end : ℕ) (ts : List Token) (e : SyntaxRefusal) →
+    ((m : ℕ) (us vs : List Token) → Q m us vs → P m us vs) → Halt Q B end ts e → Halt P B end ts e
 halt_as P Q B end ts e join h = lifted P Q B end [] ts ts e (flat P Q [] [] 0 (λ m some us vs q. join m us vs q)) refl h
 
-pub last_err : {A C : Type 0} (r : Answer (A × List Token)) (f : A × List Token → C) (e : SyntaxRefusal) → ◌≡◌ {A = Answer C} (r >>= (λ x. Ok (f x))) (Err e) → ◌≡◌ {A = Answer (A × List Token)} r (Err e)
+pub last_err : {A C : Type 0} (r : Answer (A × List Token)) (f : A × List Token → C) (e : SyntaxRefusal) → ◌≡◌ {A = Answer C} (r >>= (λ x. Ok (f x))) (Err e) →
+    ◌≡◌ {A = Answer (A × List Token)} r (Err e)
 last_err r f e h =
     elim (err_then r (λ x. Ok (f x)) e h) [
       | inl is ↦ is
       | inr (x, ex, more) ↦ (let wrong : ⊥ = cc in absurd wrong)
     ]
 
-pub halt_last : (P Q : ℕ → List Token → List Token → Type 0) (B : ℕ → Type 0) {A C : Type 0} (end : ℕ) (ts : List Token) (r : Answer (A × List Token)) (f : A × List Token → C) (e : SyntaxRefusal) → ◌≡◌ {A = Answer C} (r >>= (λ x. Ok (f x))) (Err e)
+pub halt_last : (P Q : ℕ → List Token → List Token → Type 0) (B : ℕ → Type 0) {A C : Type 0} (end : ℕ) (ts : List Token) (r : Answer (A × List Token))
+    (f : A × List Token → C) (e : SyntaxRefusal) → ◌≡◌ {A = Answer C} (r >>= (λ x. Ok (f x))) (Err e)
     → ((m : ℕ) (us vs : List Token) → Q m us vs → P m us vs) → (◌≡◌ {A = Answer (A × List Token)} r (Err e) → Halt Q B end ts e) → Halt P B end ts e
 halt_last P Q B end ts r f e h join inner = halt_as P Q B end ts e join (inner (last_err r f e h))
 
@@ -173,7 +201,8 @@ abbrev pub word : Mark → Token
 word m = dummy (spelling m)
 
 pub zero_form : (n : Nonterminal) (m : ℕ) → 1 ≤ m → (vs : List Token) → FormOf n m (zeros ++ vs) vs
-zero_form n m some vs l h = (_, record { front = zeros; depth = 1; nest = 0; split = refl; produced = a_zero n; shallow = omega (arith, some, h); narrow = omega arith })
+zero_form n m some vs l h =
+    (_, record { front = zeros; depth = 1; nest = 0; split = refl; produced = a_zero n; shallow = omega (arith, some, h); narrow = omega arith })
 
 -- ---- formulas
 
@@ -182,9 +211,20 @@ unfolding reading.formula
 formula_refused s ts e h = last_err (formula_at s.depth s.nest s.end ts) (λ x. (x.0.tree, x.1)) e h
 
 -- a form may stand where some form stands
-whole_form : (front more vs : List Token) (w : Form) → Produces expression (front ++ more) w → (m : ℕ) → max w.depth w.nest ≤ m → Expr m (front ++ (more ++ vs)) vs
-whole_form front more vs w p m some l h =
-    (w.tree, record { front = front ++ more; depth = w.depth; nest = w.nest; split = sym (append_assoc front more vs); produced = p; shallow = omega (arith, some, h); narrow = omega (arith, some, h) })
+whole_form : (front more vs : List Token) (w : Form) → Produces expression (front ++ more) w → (m : ℕ) → max w.depth w.nest ≤ m →
+    Expr m (front ++ (more ++ vs)) vs
+whole_form front more vs w p m some l h = (
+  w.tree,
+  record {
+    front = front ++ more;
+    depth = w.depth;
+    nest = w.nest;
+    split = sym (append_assoc front more vs);
+    produced = p;
+    shallow = omega (arith, some, h);
+    narrow = omega (arith, some, h);
+  },
+)
 
 nowhere : Context Expr Expr []
 nowhere = flat Expr Expr [] [] 0 (λ m some us vs r. r)
@@ -193,7 +233,15 @@ pub formula_halts : (B : ℕ → Type 0) (end : ℕ) (ts : List Token) (e : Synt
 formula_halts B end ts e h = by (formula_stops 32 32 end (omega arith) ts e (formula_refused (reading.usual end) ts e h)) where
   by : Stop 32 32 end expression ts e → Halt Expr B end ts e
   by (waits front rest more w split p same) =
-      record { front = front; rest = rest; split = split; more = more; least = max w.depth w.nest; whole = λ m some vs. whole_form front more vs w p m some; cause = expected same }
+      record {
+        front = front;
+        rest = rest;
+        split = split;
+        more = more;
+        least = max w.depth w.nest;
+        whole = λ m some vs. whole_form front more vs w p m some;
+        cause = expected same;
+      }
   by (crowded front rest more b w split bracket raised p same) =
       record {
         front = front;
@@ -203,7 +251,9 @@ formula_halts B end ts e h = by (formula_stops 32 32 end (omega arith) ts e (for
         least = max w.depth w.nest;
         whole = λ m some vs. whole_form front (b ∷ more) vs w p m some;
         cause =
-            formula [] ts refl nowhere (a_bracket front rest b split bracket raised.is (record { behind = more; whole = w; produced = subst (λ l. Produces expression l w) (sym (append_assoc front (b ∷ []) more)) p }) refl) same;
+            formula [] ts refl nowhere
+            (a_bracket front rest b split bracket raised.is
+            (record { behind = more; whole = w; produced = subst (λ l. Produces expression l w) (sym (append_assoc front (b ∷ []) more)) p }) refl) same;
       }
   by (deep front mid rest n f split a p depth same) =
       let (w, q, d) = a.whole mid f p in
@@ -216,8 +266,7 @@ formula_halts B end ts e h = by (formula_stops 32 32 end (omega arith) ts e (for
         more = mid ++ a.behind;
         least = max w.depth w.nest;
         whole = λ m some vs. whole_form front (mid ++ a.behind) vs w q m some;
-        cause =
-            formula [] ts refl nowhere (a_form front mid rest n f split a p (depth ∙ omega arith) here) (same ∙ ap TooNested (sym here));
+        cause = formula [] ts refl nowhere (a_form front mid rest n f split a p (depth ∙ omega arith) here) (same ∙ ap TooNested (sym here));
       }
 
 pub formula_sound_moved : (end : ℕ) (ts us : List Token) (v : Tree) → reading.formula (reading.usual end) ts ≡ Ok (v, us) → Moved Expr ts us

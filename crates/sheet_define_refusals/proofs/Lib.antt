@@ -1,5 +1,4 @@
 pub mod Aims
-pub mod Atoms
 pub mod Blocked
 pub mod Blocks
 pub mod Bodies

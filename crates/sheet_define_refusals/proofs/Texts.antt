@@ -1,5 +1,6 @@
 -- Texts that are refused for what their tokens are.
-use Rattle.std.proofs.Common.{◌≡◌, ℕ, zero, suc, ◌+◌, ◌-◌, List, [], ◌∷◌, length, take, Bool, true, false, cond, Option, Some, None, Result, Ok, Err, refl, sym, ◌∙◌, subst, inl, inr}
+use Rattle.std.proofs.Common.{◌≡◌, ℕ, zero, suc, ◌+◌, ◌-◌, List, [], ◌∷◌, length, take, Bool, true, false, cond, Option, Some, None, Result, Ok, Err, refl, sym}
+use Rattle.std.proofs.Common.{◌∙◌, subst, inl, inr}
 use Rattle.std.specs.Prelude.{◌==◌, nat_le, pos}
 use Rattle.sheet_syntax_trees.specs.declared.token.Token.{Token}
 use Rattle.sheet_syntax_trees.specs.declared.token.TokenKind.{TokenKind}
@@ -7,11 +8,12 @@ use Rattle.sheet_syntax_trees.specs.declared.token.TokenKind.TheVariants as kind
 use Rattle.sheet_syntax_trees.specs.declared.token.SyntaxRefusal.{SyntaxRefusal}
 use Rattle.sheet_syntax_trees.specs.declared.token.SyntaxRefusal.TheVariants.{BadToken, NumberTooWide, Expected, TooNested, NoMemory}
 use Rattle.sheet_syntax_trees.specs.Bytes.{is_letter, is_digit, is_blank, is_in_word, is_in_comment, run_length, symbol_length}
-use Rattle.sheet_syntax_trees.specs.Tokens.{word_kind, digits_value, has_leading_zero, text_from, is_short_text, text_scan, scan, with_tokens, scanned, line_after, tokens_from, lexed}
+use Rattle.sheet_syntax_trees.specs.Tokens.{word_kind, digits_value, has_leading_zero, text_from, is_short_text, text_scan, scan, with_tokens, scanned}
+use Rattle.sheet_syntax_trees.specs.Tokens.{line_after, tokens_from, lexed}
 use Rattle.sheet_syntax_trees.proofs.Ordered.{lexed_order}
 use Rattle.sheet_define_reading.specs.Reading.{definition_read, whole_definition}
 use Rattle.sheet_define_refusals.specs.Laws.{RefusedAtTheFirst, RefusedForNesting}
-use Rattle.sheet_define_refusals.proofs.Locality.{err_then}
+use Rattle.sheet_syntax_trees.proofs.Answering.{err_then}
 use Rattle.sheet_define_refusals.proofs.Wholes.{first, nested}
 
 abbrev Told : Type 0
@@ -56,7 +58,8 @@ module _ (at line : ℕ) (behind : ℕ → Told) (all : (len : ℕ) → OfBytes 
       (either (λ s. OfBytes (scanned at line s behind)) (nat_le (length word) 63) _ _ (found (word_kind word) (length word)) refl)
       (either (λ s. OfBytes (scanned at line s behind)) (is_digit c) _ _
       (either (λ s. OfBytes (scanned at line s behind)) (has_leading_zero digits) _ _ refl
-      (either (λ s. OfBytes (scanned at line s behind)) (nat_le (digits_value 0 digits) 9223372036854775807) _ _ (found (kind.Number (pos (digits_value 0 digits))) (length digits)) refl))
+      (either (λ s. OfBytes (scanned at line s behind)) (nat_le (digits_value 0 digits) 9223372036854775807) _ _
+      (found (kind.Number (pos (digits_value 0 digits))) (length digits)) refl))
       (either (λ s. OfBytes (scanned at line s behind)) (c == 34) _ _ (scanned_text (text_from false cs))
       (either (λ s. OfBytes (scanned at line s behind)) (count == 0) _ _ refl (found (kind.Symbol (take count (c ∷ cs))) count))))
 
@@ -72,7 +75,8 @@ lexed_err : (text : List ℕ) (e : SyntaxRefusal) → lexed text ≡ Err e → o
 lexed_err text e h = subst OfBytes h (from_bytes text 0 1 0)
 
 -- what refuses the tokens of a text
-told : (text : List ℕ) (e : SyntaxRefusal) → of_tokens e ≡ true → definition_read text ≡ Err e → (tokens : List Token) × (lexed text ≡ Ok tokens) × (whole_definition (length text) tokens ≡ Err e)
+told : (text : List ℕ) (e : SyntaxRefusal) → of_tokens e ≡ true → definition_read text ≡ Err e →
+    (tokens : List Token) × (lexed text ≡ Ok tokens) × (whole_definition (length text) tokens ≡ Err e)
 told text e is h =
     elim (err_then (lexed text) (λ tokens. whole_definition (length text) tokens) e h) [
       | inl bytes ↦ (let wrong : true ≡ false = sym is ∙ lexed_err text e bytes in let none : ⊥ = cc in absurd none)
@@ -80,7 +84,8 @@ told text e is h =
     ]
 
 pub refused_at_the_first : RefusedAtTheFirst
-refused_at_the_first text o h = let (tokens, read, refused) = told text (Expected o) refl h in (tokens, read, first (length text) tokens o (lexed_order text tokens read) refused)
+refused_at_the_first text o h = let (tokens, read, refused) = told text (Expected o) refl h in
+    (tokens, read, first (length text) tokens o (lexed_order text tokens read) refused)
 
 pub refused_for_nesting : RefusedForNesting
 refused_for_nesting text o h = let (tokens, read, refused) = told text (TooNested o) refl h in (tokens, read, nested (length text) tokens o refused)

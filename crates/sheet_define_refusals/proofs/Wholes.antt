@@ -6,7 +6,8 @@ use Rattle.sheet_syntax_trees.specs.declared.token.SyntaxRefusal.{SyntaxRefusal}
 use Rattle.sheet_syntax_trees.specs.declared.token.SyntaxRefusal.TheVariants.{Expected, TooNested}
 use Rattle.sheet_syntax_trees.specs.Order.{InOrder}
 use Rattle.sheet_syntax_trees.specs.Reading.{Answer, ◌>>=◌, offset}
-use Rattle.sheet_syntax_trees.proofs.Answering.{ok_then}
+use Rattle.sheet_syntax_trees.proofs.Answering.{ok_then, err_then}
+use Rattle.sheet_syntax_trees.proofs.Stopping.{same_err}
 use Rattle.sheet_define_data.specs.declared.definition.Path.{Path}
 use Rattle.sheet_define_data.specs.declared.definition.Column.{Column}
 use Rattle.sheet_define_data.specs.declared.definition.Procedure.{Procedure}
@@ -20,10 +21,12 @@ use Rattle.sheet_define_reading.specs.Reading as reading
 use Rattle.sheet_define_reading.specs.Reading.{Bounds, Reader, Turn, after, expect, with_front, optional, mark_at}
 use Rattle.sheet_define_reading.proofs.MarkLemmas.{spelling, spelled}
 use Rattle.std.proofs.Common.{append-nil}
-use Rattle.sheet_define_data.specs.Grammar.{IsSymbol, IsWord, IsName, Limits, Repeated, none, one_more, IsColumn, an_object_column, AreColumns, no_columns, more_columns, IsDeclaration, the_callers, a_column, one_procedure, one_view, AreDeclarations, no_declarations, more_declarations, BeginsDefinition}
+use Rattle.sheet_define_data.specs.Grammar.{IsSymbol, IsWord, IsName, Limits, Repeated, none, one_more, IsColumn, an_object_column, AreColumns, no_columns}
+use Rattle.sheet_define_data.specs.Grammar.{more_columns, IsDeclaration, the_callers, a_column, one_procedure, one_view, AreDeclarations, no_declarations}
+use Rattle.sheet_define_data.specs.Grammar.{more_declarations, BeginsDefinition}
 use Rattle.sheet_define_refusals.specs.Refusals as spec
-use Rattle.sheet_define_refusals.specs.Refusals.{NoneBegins, IsFirstOfDefinition, IsSomeDefinition, AdmitsFormula, AdmitsTarget, IsTooNestedDefinition, IsFirstTooNested}
-use Rattle.sheet_define_refusals.proofs.Locality.{err_then}
+use Rattle.sheet_define_refusals.specs.Refusals.{NoneBegins, IsFirstOfDefinition, IsSomeDefinition, AdmitsFormula, AdmitsTarget, IsTooNestedDefinition}
+use Rattle.sheet_define_refusals.specs.Refusals.{IsFirstTooNested}
 use Rattle.sheet_define_refusals.proofs.Formulas.{divided}
 use Rattle.sheet_define_refusals.proofs.Blocked.{all_err, found_is, blocked}
 use Rattle.sheet_define_refusals.proofs.Moving.{lim, Moved, moved_front, moved_join, moved_tokens, Expr, Aim, APath, ACol, Proc, AView, target_moved}
@@ -35,7 +38,8 @@ use Rattle.sheet_define_refusals.proofs.Columns.{CrowdedProcedure, Head, object_
 
 data Up (l : Limits) (b : ℕ) : ℕ → List Token → List Token → Type 0 where
   outermost : (ts us : List Token) (ds : List (List Declaration)) → Repeated (IsDeclaration l b) ts ds us → Up l b 0 ts us
-  inside : (k : ℕ) (ts us vs : List Token) (c : Token) (ds : List Declaration) → AreColumns l (suc k) ts ds (c ∷ us) → IsSymbol "}" c → Up l b k us vs → Up l b (suc k) ts vs
+  inside : (k : ℕ) (ts us vs : List Token) (c : Token) (ds : List Declaration) → AreColumns l (suc k) ts ds (c ∷ us) → IsSymbol "}" c → Up l b k us vs →
+      Up l b (suc k) ts vs
 
 column_first : (l : Limits) (b k : ℕ) (ts us vs : List Token) (ds : List Declaration) → IsColumn l k ts ds us → Up l b k us vs → Up l b k ts vs
 column_first l b _ ts _ _ ds c (outermost us vs es r) = outermost ts vs (ds ∷ es) (one_more ts us vs ds es (a_column ts us ds c) r)
@@ -44,13 +48,16 @@ column_first l b _ ts _ _ ds c (inside k us ws vs t es cs ist r) = inside k ts w
 other_first : (l : Limits) (b : ℕ) (ts us vs : List Token) (ds : List Declaration) → IsDeclaration l b ts ds us → Up l b 0 us vs → Up l b 0 ts vs
 other_first l b ts _ _ ds d (outermost us vs es r) = outermost ts vs (ds ∷ es) (one_more ts us vs ds es d r)
 
-object_first : (l : Limits) (b k : ℕ) (w n o : Token) (name : List ℕ) (us vs : List Token) → IsWord "object" w → IsName name n → IsSymbol "{" o → Up l b (suc k) us vs → Up l b k (w ∷ n ∷ o ∷ us) vs
-object_first l b k w n o name _ _ is named iso (inside _ us ws vs c ds cs isc r) = column_first l b k (w ∷ n ∷ o ∷ us) ws vs _ (an_object_column k w n o c name us ws ds is named iso cs isc) r
+object_first : (l : Limits) (b k : ℕ) (w n o : Token) (name : List ℕ) (us vs : List Token) → IsWord "object" w → IsName name n →
+    IsSymbol "{" o → Up l b (suc k) us vs → Up l b k (w ∷ n ∷ o ∷ us) vs
+object_first l b k w n o name _ _ is named iso (inside _ us ws vs c ds cs isc r) =
+    column_first l b k (w ∷ n ∷ o ∷ us) ws vs _ (an_object_column k w n o c name us ws ds is named iso cs isc) r
 
 brace_first : (l : Limits) (b k : ℕ) (c : Token) (us vs : List Token) → IsSymbol "}" c → Up l b k us vs → Up l b (suc k) (c ∷ us) vs
 brace_first l b k c us vs isc r = inside k (c ∷ us) us vs c [] (no_columns (suc k) (c ∷ us)) isc r
 
-declared : (l : Limits) (b : ℕ) (ts us : List Token) (ds : List (List Declaration)) → us ≡ [] → Repeated (IsDeclaration l b) ts ds us → (es : List Declaration) × AreDeclarations l b ts es
+declared : (l : Limits) (b : ℕ) (ts us : List Token) (ds : List (List Declaration)) → us ≡ [] → Repeated (IsDeclaration l b) ts ds us →
+    (es : List Declaration) × AreDeclarations l b ts es
 declared l b _ _ _ end (none ts) = ([], subst (λ k. AreDeclarations l b k []) (sym end) no_declarations)
 declared l b _ _ _ end (one_more ts us vs x xs p q) = let (es, r) = declared l b us vs xs end q in (x ++ es, more_declarations ts us x es p r)
 
@@ -82,9 +89,6 @@ record CrowdedAll (k : ℕ) (ts : List Token) (at : ℕ) : Type 0 where
   before : Moved (Tail k) ts procedure
   crowded : CrowdedProcedure 16 procedure at
 
-same_err : {A : Type 0} (d e : SyntaxRefusal) → ◌≡◌ {A = Answer A} (Err d) (Err e) → e ≡ d
-same_err d e h = cc
-
 module _ (end : ℕ) where
   abbrev U : Bounds
   U = reading.usual end
@@ -99,14 +103,17 @@ module _ (end : ℕ) where
   rest_of j r = r >>= (λ x. reading.all_before (reading.found_list x.0) (reading.declarations U 16 j x.1 x.2))
 
   -- a reader's answer that begins a turn
-  one_turn : (A : Type 0) (r : Answer (A × List Token)) (Q : ℕ → List Token → List Token → Type 0) (B : ℕ → Type 0) (k j : ℕ) (t : Token) (ts : List Token) → Meets Q B end A r ts → ((at : ℕ) → B at → CrowdedAll k (t ∷ ts) at)
-      → ((m : ℕ) (xs ws vs : List Token) → Q m xs ws → Tail j m ws vs → Tail k m (t ∷ xs) vs) → (turns : ℕ) → Again turns → (f : A → Option Declaration) (e : SyntaxRefusal) → rest_of turns (r >>= (λ x. Ok (f x.0, j, x.1))) ≡ Err e → H k (t ∷ ts) e
+  one_turn : (A : Type 0) (r : Answer (A × List Token)) (Q : ℕ → List Token → List Token → Type 0) (B : ℕ → Type 0) (k j : ℕ) (t : Token) (ts : List Token) →
+      Meets Q B end A r ts → ((at : ℕ) → B at → CrowdedAll k (t ∷ ts) at)
+      → ((m : ℕ) (xs ws vs : List Token) → Q m xs ws → Tail j m ws vs → Tail k m (t ∷ xs) vs) → (turns : ℕ) → Again turns →
+      (f : A → Option Declaration) (e : SyntaxRefusal) → rest_of turns (r >>= (λ x. Ok (f x.0, j, x.1))) ≡ Err e → H k (t ∷ ts) e
   one_turn A r Q B k j t ts meets first join turns again f e h =
       elim (err_then (r >>= (λ x. Ok (f x.0, j, x.1))) (λ x. reading.all_before (reading.found_list x.0) (reading.declarations U 16 turns x.1 x.2)) e h) [
         | inl e0 ↦
             elim (err_then r (λ x. Ok (f x.0, j, x.1)) e e0) [
               | inl e1 ↦
-                  lifted (Tail k) Q (CrowdedAll k (t ∷ ts)) end (t ∷ []) ts (t ∷ ts) e (flat (Tail k) Q (t ∷ []) (closers j) 0 (λ m some us vs q. join m us (closers j ++ vs) vs q (closed_up j m vs))) refl
+                  lifted (Tail k) Q (CrowdedAll k (t ∷ ts)) end (t ∷ []) ts (t ∷ ts) e
+                  (flat (Tail k) Q (t ∷ []) (closers j) 0 (λ m some us vs q. join m us (closers j ++ vs) vs q (closed_up j m vs))) refl
                   (known Q B (CrowdedAll k (t ∷ ts)) end ts e first (meets.halts e e1))
               | inr (x, ex, e1) ↦ (let wrong : ⊥ = cc in absurd wrong)
             ]
@@ -116,9 +123,17 @@ module _ (end : ℕ) where
             let q = meets.moves x.0 x.1 ex in
             let refuses = all_err (reading.found_list y.0) (reading.declarations U 16 turns y.1 y.2) e e0 in
             let there = subst (λ (z : Turn). reading.declarations U 16 turns z.1 z.2 ≡ Err e) (sym same) refuses in
-            lifted (Tail k) (Tail j) (CrowdedAll k (t ∷ ts)) end (t ∷ q.front) x.1 (t ∷ ts) e (flat (Tail k) (Tail j) (t ∷ q.front) [] q.least (λ m some us vs r. join m (q.front ++ us) us vs (q.again m some us) r)) (ap (λ l. t ∷ l) q.split)
+            lifted (Tail k) (Tail j) (CrowdedAll k (t ∷ ts)) end (t ∷ q.front) x.1 (t ∷ ts) e
+            (flat (Tail k) (Tail j) (t ∷ q.front) [] q.least (λ m some us vs r. join m (q.front ++ us) us vs (q.again m some us) r))
+            (ap (λ l. t ∷ l) q.split)
             (known (Tail j) (CrowdedAll j x.1) (CrowdedAll k (t ∷ ts)) end x.1 e
-            (λ at c. record { procedure = c.procedure; crowded = c.crowded; before = moved_front (Tail k) (Behind t (Tail k)) (t ∷ []) ts c.procedure (moved_join (Behind t (Tail k)) Q (Tail j) [] ts x.1 c.procedure q c.before (λ m xs vs ws q r. join m xs vs ws q r)) (λ m xs ws q. q) })
+            (λ at c. record {
+              procedure = c.procedure;
+              crowded = c.crowded;
+              before =
+                  moved_front (Tail k) (Behind t (Tail k)) (t ∷ []) ts c.procedure
+                  (moved_join (Behind t (Tail k)) Q (Tail j) [] ts x.1 c.procedure q c.before (λ m xs vs ws q r. join m xs vs ws q r)) (λ m xs ws q. q);
+            })
             (again j x.1 e there)))
       ]
 
@@ -129,26 +144,37 @@ module _ (end : ℕ) where
   unfolding Never
   never k ts at n = absurd n
 
-  closed_turn : (k : ℕ) (t : Token) (ts : List Token) → t.kind ≡ spelling mark.CloseBrace → (turns : ℕ) → Again turns → (e : SyntaxRefusal) → rest_of turns (reading.closing k t ts) ≡ Err e → H k (t ∷ ts) e
+  closed_turn : (k : ℕ) (t : Token) (ts : List Token) → t.kind ≡ spelling mark.CloseBrace → (turns : ℕ) → Again turns → (e : SyntaxRefusal) →
+      rest_of turns (reading.closing k t ts) ≡ Err e → H k (t ∷ ts) e
   closed_turn zero t ts is turns again e h = halt_here (Tail 0) (CrowdedAll 0 (t ∷ ts)) end (t ∷ ts) e (tail_sample 0) (same_err (Expected t.start) e h)
   closed_turn (suc k) t ts is turns again e h =
-      lifted (Tail (suc k)) (Tail k) (CrowdedAll (suc k) (t ∷ ts)) end (t ∷ []) ts (t ∷ ts) e (flat (Tail (suc k)) (Tail k) (t ∷ []) [] 0 (λ m some us vs r l b. brace_first (lim l) m k t us vs is (r l b))) refl
+      lifted (Tail (suc k)) (Tail k) (CrowdedAll (suc k) (t ∷ ts)) end (t ∷ []) ts (t ∷ ts) e
+      (flat (Tail (suc k)) (Tail k) (t ∷ []) [] 0 (λ m some us vs r l b. brace_first (lim l) m k t us vs is (r l b))) refl
       (known (Tail k) (CrowdedAll k ts) (CrowdedAll (suc k) (t ∷ ts)) end ts e
-      (λ at c. record { procedure = c.procedure; crowded = c.crowded; before = moved_front (Tail (suc k)) (Tail k) (t ∷ []) ts c.procedure c.before (λ m xs ws r l b. brace_first (lim l) m k t xs ws is (r l b)) })
+      (λ at c. record {
+        procedure = c.procedure;
+        crowded = c.crowded;
+        before = moved_front (Tail (suc k)) (Tail k) (t ∷ []) ts c.procedure c.before (λ m xs ws r l b. brace_first (lim l) m k t xs ws is (r l b));
+      })
       (again k ts e (all_err [] (reading.declarations U 16 turns k ts) e h)))
 
-  turn_halts : (k : ℕ) (t : Token) (ts : List Token) (m : Mark) → mark_of t.kind ≡ m → (turns : ℕ) → Again turns → (e : SyntaxRefusal) → rest_of turns (reading.turn_by U 16 k t ts m) ≡ Err e → H k (t ∷ ts) e
+  turn_halts : (k : ℕ) (t : Token) (ts : List Token) (m : Mark) → mark_of t.kind ≡ m → (turns : ℕ) → Again turns → (e : SyntaxRefusal) →
+      rest_of turns (reading.turn_by U 16 k t ts m) ≡ Err e → H k (t ∷ ts) e
   unfolding reading.turn_by reading.outermost_by
   turn_halts k t ts mark.Object is turns again e h =
       one_turn Column (reading.object_column U k t ts) (Head end) Never k (suc k) t ts (object_meets end Never k t ts) (never k (t ∷ ts))
-      (λ m xs ws vs q r l b. subst (λ k2. Up (lim l) m k (t ∷ k2) vs) (sym q.is) (object_first (lim l) m k t q.first q.brace q.name ws vs (spelled t.kind mark.Object is (omega arith)) q.named q.opens (r l b)))
+      (λ m xs ws vs q r l b.
+      subst (λ k2. Up (lim l) m k (t ∷ k2) vs) (sym q.is)
+      (object_first (lim l) m k t q.first q.brace q.name ws vs (spelled t.kind mark.Object is (omega arith)) q.named q.opens (r l b)))
       turns again (λ c. Some (declaration.Column c)) e (ap (rest_of turns) (sym (found_is end 0 0 (suc k) (reading.object_column U k t ts))) ∙ h)
   turn_halts k t ts mark.State is turns again e h =
-      one_turn Column (reading.state_column U k t ts) (Behind t (ACol k)) Never k k t ts (state_meets end Never k t (spelled t.kind mark.State is (omega arith)) ts) (never k (t ∷ ts))
+      one_turn Column (reading.state_column U k t ts) (Behind t (ACol k)) Never k k t ts
+      (state_meets end Never k t (spelled t.kind mark.State is (omega arith)) ts) (never k (t ∷ ts))
       (λ m xs ws vs q r l b. let (ds, c) = q l b in column_first (lim l) m k (t ∷ xs) ws vs ds c (r l b))
       turns again (λ c. Some (declaration.Column c)) e (ap (rest_of turns) (sym (found_is end 0 0 k (reading.state_column U k t ts))) ∙ h)
   turn_halts k t ts mark.Formula is turns again e h =
-      one_turn Column (reading.formula_column U k t ts) (Behind t (ACol k)) Never k k t ts (formula_column_meets end Never k t (spelled t.kind mark.Formula is (omega arith)) ts) (never k (t ∷ ts))
+      one_turn Column (reading.formula_column U k t ts) (Behind t (ACol k)) Never k k t ts
+      (formula_column_meets end Never k t (spelled t.kind mark.Formula is (omega arith)) ts) (never k (t ∷ ts))
       (λ m xs ws vs q r l b. let (ds, c) = q l b in column_first (lim l) m k (t ∷ xs) ws vs ds c (r l b))
       turns again (λ c. Some (declaration.Column c)) e (ap (rest_of turns) (sym (found_is end 0 0 k (reading.formula_column U k t ts))) ∙ h)
   turn_halts k t ts mark.CloseBrace is turns again e h = closed_turn k t ts (spelled t.kind mark.CloseBrace is (omega arith)) turns again e h
@@ -157,16 +183,19 @@ module _ (end : ℕ) where
       (λ m xs ws vs q r l b. other_first (lim l) m (t ∷ xs) ws vs _ (the_callers t xs ws q.0 (spelled t.kind mark.Callers is (omega arith)) q.1) (r l b))
       turns again (λ p. Some (declaration.Callers t.line p)) e h
   turn_halts zero t ts mark.Procedure is turns again e h =
-      one_turn Procedure (reading.procedure U 16 t ts) (Behind t Proc) (CrowdedProcedure 16 (t ∷ ts)) 0 0 t ts (procedure_meets end 16 t (spelled t.kind mark.Procedure is (omega arith)) ts)
+      one_turn Procedure (reading.procedure U 16 t ts) (Behind t Proc) (CrowdedProcedure 16 (t ∷ ts)) 0 0 t ts
+      (procedure_meets end 16 t (spelled t.kind mark.Procedure is (omega arith)) ts)
       (λ at c. record { procedure = t ∷ ts; before = moved_tokens (Tail 0) [] (t ∷ ts) (λ m vs l b. outermost vs vs [] (none vs)); crowded = c })
       (λ m xs ws vs q r l b. let (p, c) = q l b in other_first (lim l) m (t ∷ xs) ws vs _ (one_procedure (t ∷ xs) ws p c) (r l b))
       turns again (λ p. Some (declaration.Procedure p)) e h
   turn_halts zero t ts mark.View is turns again e h =
-      one_turn View (reading.view U t ts) (Behind t AView) Never 0 0 t ts (view_meets end Never t (spelled t.kind mark.View is (omega arith)) ts) (never 0 (t ∷ ts))
+      one_turn View (reading.view U t ts) (Behind t AView) Never 0 0 t ts (view_meets end Never t (spelled t.kind mark.View is (omega arith)) ts)
+      (never 0 (t ∷ ts))
       (λ m xs ws vs q r l b. let (v, c) = q l b in other_first (lim l) m (t ∷ xs) ws vs _ (one_view (t ∷ xs) ws v c) (r l b))
       turns again (λ v. Some (declaration.View v)) e h
   turn_halts zero t ts _ is turns again e h = halt_here (Tail 0) (CrowdedAll 0 (t ∷ ts)) end (t ∷ ts) e (tail_sample 0) (same_err (Expected t.start) e h)
-  turn_halts (suc k) t ts _ is turns again e h = halt_here (Tail (suc k)) (CrowdedAll (suc k) (t ∷ ts)) end (t ∷ ts) e (tail_sample (suc k)) (same_err (Expected t.start) e h)
+  turn_halts (suc k) t ts _ is turns again e h =
+      halt_here (Tail (suc k)) (CrowdedAll (suc k) (t ∷ ts)) end (t ∷ ts) e (tail_sample (suc k)) (same_err (Expected t.start) e h)
 
   ended_halts : (k : ℕ) (e : SyntaxRefusal) → reading.ended end k ≡ Err e → H k [] e
   ended_halts zero e h = let wrong : ⊥ = cc in absurd wrong
@@ -194,8 +223,16 @@ first end ts o order h =
     let b = blocked end ts o order h in
     let s = whole_halts end ts (Expected o) h in
     let here : o ≡ offset end s.rest = by (offset end s.rest) s.cause in
-    let (fronts, rests) = divided 0 end s.front b.front s.rest b.rest (subst (λ k. InOrder 0 end k) s.split order) (sym s.split ∙ b.split) (sym here ∙ b.here) in
-    record { front = b.front; rest = b.rest; split = b.split; here = b.here; begins = subst BeginsDefinition fronts (begun s.front s.more s.least (s.whole s.least (omega arith) [])); none = b.none } where
+    let (fronts, rests) = divided 0 end s.front b.front s.rest b.rest (subst (λ k. InOrder 0 end k) s.split order) (sym s.split ∙ b.split)
+    (sym here ∙ b.here) in
+    record {
+      front = b.front;
+      rest = b.rest;
+      split = b.split;
+      here = b.here;
+      begins = subst BeginsDefinition fronts (begun s.front s.more s.least (s.whole s.least (omega arith) []));
+      none = b.none;
+    } where
       by : (at : ℕ) → Cause (Tail 0) (CrowdedAll 0 ts) end ts (Expected o) at → o ≡ at
       by at (expected is) = cc
       by at (formula f rest split c n is) = let wrong : ⊥ = cc in absurd wrong
@@ -203,7 +240,8 @@ first end ts o order h =
       by at (a_block c is) = let wrong : ⊥ = cc in absurd wrong
 
 some_definition : (tokens : List Token) (m : ℕ) → Tail 0 m tokens [] → IsSomeDefinition tokens
-some_definition tokens m t = let (ds, a) = all_of (lim m) m tokens [] refl (t m (omega arith)) in record { limits = lim m; blocks = m; declarations = ds; produced = a }
+some_definition tokens m t = let (ds, a) = all_of (lim m) m tokens [] refl (t m (omega arith)) in
+    record { limits = lim m; blocks = m; declarations = ds; produced = a }
 
 admits_formula : (front : List Token) → Context (Tail 0) Expr front → AdmitsFormula front
 admits_formula front c =
@@ -211,7 +249,19 @@ admits_formula front c =
       behind = c.more;
       whole = λ mid f p.
           let m : ℕ = max c.least (max f.depth f.nest) in
-          let here : Expr m (mid ++ c.more) (c.more ++ []) = λ l h. (f.tree, record { front = mid; depth = f.depth; nest = f.nest; split = ap (λ l. mid ++ l) (sym (append-nil c.more)); produced = p; shallow = omega (arith, h); narrow = omega (arith, h) }) in
+          let here : Expr m (mid ++ c.more) (c.more ++ []) =
+          λ l h. (
+            f.tree,
+            record {
+              front = mid;
+              depth = f.depth;
+              nest = f.nest;
+              split = ap (λ l. mid ++ l) (sym (append-nil c.more));
+              produced = p;
+              shallow = omega (arith, h);
+              narrow = omega (arith, h);
+            },
+          ) in
           some_definition (front ++ (mid ++ c.more)) (m + c.blocks) (c.whole m (omega arith) (mid ++ c.more) [] here);
     }
 
@@ -222,7 +272,8 @@ admits_target front c =
       whole = λ l mid t p.
           let q = target_moved l (mid ++ c.more) c.more t p in
           let m : ℕ = max c.least q.least in
-          let here : Aim m (mid ++ c.more) (c.more ++ []) = subst (λ k. Aim m (mid ++ c.more) k) (sym (append-nil c.more)) (subst (λ k. Aim m k c.more) (sym q.split) (q.again m (omega arith) c.more)) in
+          let here : Aim m (mid ++ c.more) (c.more ++ []) =
+          subst (λ k. Aim m (mid ++ c.more) k) (sym (append-nil c.more)) (subst (λ k. Aim m k c.more) (sym q.split) (q.again m (omega arith) c.more)) in
           some_definition (front ++ (mid ++ c.more)) (m + c.blocks) (c.whole m (omega arith) (mid ++ c.more) [] here);
     }
 
@@ -238,9 +289,18 @@ pub nested : (end : ℕ) (ts : List Token) (o : ℕ) → reading.whole_definitio
 nested end ts o h =
     let s = whole_halts end ts (TooNested o) h in
     let (here, deep) = by (offset end s.rest) s.cause in
-    record { front = s.front; rest = s.rest; split = s.split; here = here; begins = begun s.front s.more s.least (s.whole s.least (omega arith) []); nested = deep } where
+    record {
+      front = s.front;
+      rest = s.rest;
+      split = s.split;
+      here = here;
+      begins = begun s.front s.more s.least (s.whole s.least (omega arith) []);
+      nested = deep;
+    } where
       by : (at : ℕ) → Cause (Tail 0) (CrowdedAll 0 ts) end ts (TooNested o) at → (o ≡ at) × IsTooNestedDefinition end ts o
       by at (expected is) = let wrong : ⊥ = cc in absurd wrong
-      by at (formula f rest split c n is) = let same : o ≡ at = cc in (same, subst (λ k. IsTooNestedDefinition end ts k) (sym same) (spec.in_formula f rest split (admits_formula f c) n))
-      by at (target f rest split c n is) = let same : o ≡ at = cc in (same, subst (λ k. IsTooNestedDefinition end ts k) (sym same) (spec.in_target f rest split (admits_target f c) n))
+      by at (formula f rest split c n is) =
+          let same : o ≡ at = cc in (same, subst (λ k. IsTooNestedDefinition end ts k) (sym same) (spec.in_formula f rest split (admits_formula f c) n))
+      by at (target f rest split c n is) =
+          let same : o ≡ at = cc in (same, subst (λ k. IsTooNestedDefinition end ts k) (sym same) (spec.in_target f rest split (admits_target f c) n))
       by at (a_block c is) = let same : o ≡ at = cc in (same, subst (λ k. IsTooNestedDefinition end ts k) (sym same) (crowded_definition end ts at c))

@@ -4,18 +4,11 @@ use Rattle.std.specs.Prelude.{slice_get, map}
 use Rattle.std.specs.List.{AllByRecursion}
 use Rattle.std.proofs.lemmas.List.{take_at, length_push}
 use Rattle.sheet_state_rows.specs.Rows.{Versions}
-
-pub get_last : {A : Type 0} (xs : List A) (x : A) → slice_get (xs ++ x ∷ []) (length xs) ≡ Some x
-get_last [] x = refl
-get_last (y ∷ xs) x = get_last xs x
-
-pub get_old : {A : Type 0} (xs ys : List A) (k : ℕ) → k < length xs → slice_get (xs ++ ys) k ≡ slice_get xs k
-get_old [] ys k lt = absurd (omega arith)
-get_old (x ∷ xs) ys zero lt = refl
-get_old (x ∷ xs) ys (suc k) lt = get_old xs ys k (omega arith)
+use Rattle.sheet_state_rows.proofs.Undo.{get_last, get_old}
 
 -- back at the beginning of a change that began at v
-pub back : (v w u : Versions) (mark : ℕ) → mark ≡ length v.earlier → w.earlier ≡ v.earlier ++ v.present ∷ [] → slice_get (w.earlier ++ w.present ∷ []) mark ≡ Some u.present → u.earlier ≡ take mark w.earlier → u ≡ v
+pub back : (v w u : Versions) (mark : ℕ) → mark ≡ length v.earlier → w.earlier ≡ v.earlier ++ v.present ∷ [] →
+    slice_get (w.earlier ++ w.present ∷ []) mark ≡ Some u.present → u.earlier ≡ take mark w.earlier → u ≡ v
 back v w u mark at began there left =
     let xs = v.earlier in
     let within : length xs < length (xs ++ v.present ∷ []) = let long = length_push xs v.present in omega arith in

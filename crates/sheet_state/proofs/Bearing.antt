@@ -1,5 +1,6 @@
 -- The rows after an object was made.
-use Rattle.std.proofs.Common.{◌≡◌, refl, sym, ap, ◌∙◌, subst, ℕ, ◌+◌, ◌<◌, zero, suc, Bool, true, false, cond, List, [], ◌∷◌, ◌++◌, length, arith, Option, Some, None, append_assoc, length-append}
+use Rattle.std.proofs.Common.{◌≡◌, refl, sym, ap, ◌∙◌, subst, ℕ, ◌+◌, ◌<◌, zero, suc, Bool, true, false, cond, List, [], ◌∷◌, ◌++◌, length, arith, Option, Some}
+use Rattle.std.proofs.Common.{None, append_assoc, length-append}
 use Rattle.std.specs.Prelude.{not, ◌==◌, ◌&&◌, ◌||◌, if◌then◌else◌, map, filter, slice_set, slice_get, IsSome, position}
 use Rattle.std.specs.List.{filter_map, flat_map, cons_option, enumerate_from, AllByRecursion}
 use Rattle.std.specs.declared.cmp.Ordering.{Ordering}
@@ -32,7 +33,7 @@ use Rattle.sheet_state.specs.Kept.{schema_of, book, as_formula, as_extent, objec
 use Rattle.sheet_state.specs.Rows.{cells_in, objects_in, object_of, row_cmp}
 use Rattle.sheet_state.proofs.WithSet.{all_mono}
 use Rattle.sheet_state.proofs.WithObject.{all_both}
-use Rattle.sheet_state.proofs.Newborn.{newborn, column_cmp}
+use Rattle.sheet_state.proofs.Newborn.{set_front, newborn, column_cmp}
 
 -- what the columns under a column give comes in the order of their numbers
 module _ {A : Type 0} (f : ℕ → Column → Option A) (number : A → ℕ) (numbered : (k : ℕ) (c : Column) (a : A) → f k c ≡ Some a → number a ≡ k) (c : ℕ) where
@@ -41,7 +42,10 @@ module _ {A : Type 0} (f : ℕ → Column → Option A) (number : A → ℕ) (nu
 
   numbered_by : (k : ℕ) (n : Node) (a : A) → given (k, n) ≡ Some a → number a ≡ k
   numbered_by k n a e =
-      elim (is_number c n.above) as (λ b. (if b then f k n.column else None) ≡ Some a → number a ≡ k) [ true ↦ λ h. numbered k n.column a h | false ↦ λ h. cc ] e
+      elim (is_number c n.above) as (λ b. (if b then f k n.column else None) ≡ Some a → number a ≡ k) [
+        | true ↦ λ h. numbered k n.column a h
+        | false ↦ λ h. cc
+      ] e
 
   below_later : (a : A) (k : ℕ) (nodes : List Node) → number a < k → IsBelow (on number nat_cmp) a (filter_map given (enumerate_from k nodes))
   below_later a k [] lt = tt
@@ -79,7 +83,8 @@ pub extents_rise : (nodes : List Node) (c : ℕ) → IsRising (on (λ (k : ℕ).
 extents_rise nodes c = in_order as_extent (λ (k : ℕ). k) extent_number c 0 nodes
 
 -- two lists in order, the first below the second
-rising_append : {A : Type 0} (cmp : A → A → Ordering) (xs ys : List A) → IsRising cmp xs → IsRising cmp ys → AllByRecursion (λ x. IsBelow cmp x ys) xs → IsRising cmp (xs ++ ys)
+rising_append : {A : Type 0} (cmp : A → A → Ordering) (xs ys : List A) → IsRising cmp xs → IsRising cmp ys → AllByRecursion (λ x. IsBelow cmp x ys) xs →
+    IsRising cmp (xs ++ ys)
 rising_append cmp [] ys r s h = s
 rising_append {A} cmp (x ∷ xs) ys r s h = (below xs r.0, rising_append cmp xs ys r.1 s h.1)
   where
@@ -91,7 +96,8 @@ ties : (n : ℕ) → nat_cmp n n ≡ Equal
 ties n = sym (nat_cmp_is n n Equal refl)
 
 -- rows of one object, in the order of their columns
-module _ {A : Type 0} (number : A → ℕ) (row_of : A → SetRow) (n : ℕ) (object : (a : A) → (row_of a).object ≡ n) (column : (a : A) → (row_of a).column ≡ number a) where
+module _ {A : Type 0} (number : A → ℕ) (row_of : A → SetRow) (n : ℕ) (object : (a : A) → (row_of a).object ≡ n) (column : (a : A) →
+    (row_of a).column ≡ number a) where
   same_object : (a b : A) → nat_cmp (number a) (number b) ≡ Less → row_cmp (row_of a) (row_of b) ≡ Less
   same_object a b e =
       ap (λ o. ordering_then (nat_cmp o (row_of b).object) (nat_cmp (row_of a).column (row_of b).column)) (object a)
@@ -117,11 +123,14 @@ module _ {A : Type 0} (number : A → ℕ) (row_of : A → SetRow) (n : ℕ) (ob
     older_below r lt us,
   )
 
-  pub grown_rising : (rows : List SetRow) (us : List A) → IsRising row_cmp rows → AllByRecursion (λ (r : SetRow). r.object < n) rows → IsRising (on number nat_cmp) us → IsRising row_cmp (rows ++ map row_of us)
+  pub grown_rising : (rows : List SetRow) (us : List A) → IsRising row_cmp rows → AllByRecursion (λ (r : SetRow). r.object < n) rows →
+      IsRising (on number nat_cmp) us → IsRising row_cmp (rows ++ map row_of us)
   grown_rising rows us r drawn s =
-      rising_append row_cmp rows (map row_of us) r (rows_rise us s) (all_mono (λ (q : SetRow). q.object < n) (λ (q : SetRow). IsBelow row_cmp q (map row_of us)) (λ q h. older_below q h us) rows drawn)
+      rising_append row_cmp rows (map row_of us) r (rows_rise us s)
+      (all_mono (λ (q : SetRow). q.object < n) (λ (q : SetRow). IsBelow row_cmp q (map row_of us)) (λ q h. older_below q h us) rows drawn)
 
-  pub grown_drawn : (rows : List SetRow) (us : List A) → AllByRecursion (λ (r : SetRow). r.object < n) rows → AllByRecursion (λ (r : SetRow). r.object < n + 1) (rows ++ map row_of us)
+  pub grown_drawn : (rows : List SetRow) (us : List A) → AllByRecursion (λ (r : SetRow). r.object < n) rows →
+      AllByRecursion (λ (r : SetRow). r.object < n + 1) (rows ++ map row_of us)
   grown_drawn rows us drawn =
       all_both (λ (r : SetRow). r.object < n + 1) rows (map row_of us)
       (all_mono (λ (r : SetRow). r.object < n) (λ (r : SetRow). r.object < n + 1) (λ r h. omega arith) rows drawn)
@@ -143,10 +152,6 @@ no_children n [] o k = refl
 no_children n (j ∷ js) o k =
     elim (n == o && j == k) as (λ b. (if b then [] else set_in (map (empty_extent n) js) o k) ≡ []) [ true ↦ refl | false ↦ no_children n js o k ]
 
-pub set_front : (xs ys : List StoredCell) (o k : ℕ) → set_in ys o k ≡ [] → set_in (xs ++ ys) o k ≡ set_in xs o k
-set_front [] ys o k e = e
-set_front (x ∷ xs) ys o k e = ap (λ l. if x.object == o && x.column == k then x.set else l) (set_front xs ys o k e)
-
 first_length : (o : Option Value) (rest : List Value) → length (first_set o) + length rest ≡ length (cons_option o rest)
 first_length None rest = omega arith
 first_length (Some v) rest = omega arith
@@ -160,18 +165,23 @@ first_values n (k ∷ ks) =
     omega (arith, more, rest, l)
 
 -- the greatest value goes to the end
-pub insert_last : (n : ℕ) (objects : List LiveObject) (o c : ℕ) → AllByRecursion (λ (x : LiveObject). x.number < n) objects → insert value_cmp (Object n) (children_in objects o c) ≡ children_in objects o c ++ Object n ∷ []
+pub insert_last : (n : ℕ) (objects : List LiveObject) (o c : ℕ) → AllByRecursion (λ (x : LiveObject). x.number < n) objects →
+    insert value_cmp (Object n) (children_in objects o c) ≡ children_in objects o c ++ Object n ∷ []
 insert_last n [] o c h = refl
 insert_last n (x ∷ xs) o c h =
-    elim (is_child o c x) as (λ b. insert value_cmp (Object n) (map (λ (y : LiveObject). Object y.number) (cond b (x ∷ filter (is_child o c) xs) (filter (is_child o c) xs))) ≡ map (λ (y : LiveObject). Object y.number) (cond b (x ∷ filter (is_child o c) xs) (filter (is_child o c) xs)) ++ Object n ∷ []) [
+    elim (is_child o c x)
+    as (λ b. insert value_cmp (Object n) (map (λ (y : LiveObject). Object y.number) (cond b (x ∷ filter (is_child o c) xs) (filter (is_child o c) xs))) ≡
+    map (λ (y : LiveObject). Object y.number) (cond b (x ∷ filter (is_child o c) xs) (filter (is_child o c) xs)) ++ Object n ∷ []) [
       | true ↦
-          ap (λ r. by_order r (Object n ∷ Object x.number ∷ children_in xs o c) (Object x.number ∷ children_in xs o c) (Object x.number ∷ insert value_cmp (Object n) (children_in xs o c))) (sym (nat_cmp_is n x.number Greater h.0))
+          ap (λ r. by_order r (Object n ∷ Object x.number ∷ children_in xs o c) (Object x.number ∷ children_in xs o c)
+          (Object x.number ∷ insert value_cmp (Object n) (children_in xs o c))) (sym (nat_cmp_is n x.number Greater h.0))
           ∙ ap (λ l. Object x.number ∷ l) (insert_last n xs o c h.1)
       | false ↦ insert_last n xs o c h.1
     ]
 
 -- the live ones of drawn rows
-pub live_drawn : (n : ℕ) (rows : List ObjectRow) → AllByRecursion (λ (r : ObjectRow). r.number < n) rows → AllByRecursion (λ (x : LiveObject). x.number < n) (objects_in rows)
+pub live_drawn : (n : ℕ) (rows : List ObjectRow) → AllByRecursion (λ (r : ObjectRow). r.number < n) rows →
+    AllByRecursion (λ (x : LiveObject). x.number < n) (objects_in rows)
 live_drawn n [] h = tt
 live_drawn n (r ∷ rows) h =
     elim r.live as (λ b. AllByRecursion (λ (x : LiveObject). x.number < n) (cons_option (if b then Some (object_of r) else None) (objects_in rows))) [
@@ -179,10 +189,13 @@ live_drawn n (r ∷ rows) h =
       | false ↦ live_drawn n rows h.1
     ]
 
-pub cells_drawn : (n : ℕ) (rows : List SetRow) → AllByRecursion (λ (r : SetRow). r.object < n) rows → AllByRecursion (λ (x : StoredCell). x.object < n) (cells_in rows)
+pub cells_drawn : (n : ℕ) (rows : List SetRow) → AllByRecursion (λ (r : SetRow). r.object < n) rows →
+    AllByRecursion (λ (x : StoredCell). x.object < n) (cells_in rows)
 cells_drawn n [] h = tt
 cells_drawn n (r ∷ rows) h =
-    elim r.live as (λ b. AllByRecursion (λ (x : StoredCell). x.object < n) (cons_option (if b then Some (record { object = r.object; column = r.column; set = r.set }) else None) (cells_in rows))) [
+    elim r.live as (λ b.
+    AllByRecursion (λ (x : StoredCell). x.object < n) (cons_option (if b then Some (record { object = r.object; column = r.column; set = r.set }) else None)
+    (cells_in rows))) [
       | true ↦ (h.0, cells_drawn n rows h.1)
       | false ↦ cells_drawn n rows h.1
     ]
@@ -196,7 +209,8 @@ numbered_from pre [] k e = tt
 numbered_from pre (n ∷ nodes) k e =
     let long = length_push pre n in (
       got pre n nodes k e,
-      subst (λ l. AllByRecursion (IsNumbered l) (enumerate_from (k + 1) nodes)) (append_assoc pre (n ∷ []) nodes) (numbered_from (pre ++ n ∷ []) nodes (k + 1) (omega arith)),
+      subst (λ l. AllByRecursion (IsNumbered l) (enumerate_from (k + 1) nodes)) (append_assoc pre (n ∷ []) nodes)
+          (numbered_from (pre ++ n ∷ []) nodes (k + 1) (omega arith)),
     )
   where
     got : (xs : List Node) (x : Node) (ys : List Node) (j : ℕ) → j ≡ length xs → slice_get (xs ++ x ∷ ys) j ≡ Some x
@@ -206,7 +220,10 @@ numbered_from pre (n ∷ nodes) k e =
 
 -- as many formula cells as formula columns
 module _ (nodes : List Node) (o c : ℕ) where
-  one_formula : (x : ℕ × Node) → IsNumbered nodes x → (fs : List ColumnFormula) (ks : List ℕ) → length (filter_map (formula_cell (schema_of nodes) o c) fs) ≡ length ks → (col : Column) → length (filter_map (formula_cell (schema_of nodes) o c) (cons_option (as_formula x.0 col) fs)) ≡ length (cons_option (if is_number c x.1.above then is_formula x.0 col else None) ks)
+  one_formula : (x : ℕ × Node) → IsNumbered nodes x → (fs : List ColumnFormula) (ks : List ℕ) →
+      length (filter_map (formula_cell (schema_of nodes) o c) fs) ≡ length ks → (col : Column) →
+      length (filter_map (formula_cell (schema_of nodes) o c) (cons_option (as_formula x.0 col) fs)) ≡ length
+      (cons_option (if is_number c x.1.above then is_formula x.0 col else None) ks)
   one_formula x at fs ks e column.Object = e ∙ skip (is_number c x.1.above)
     where
       skip : (b : Bool) → length ks ≡ length (cons_option (if b then None else None) ks)
@@ -218,16 +235,25 @@ module _ (nodes : List Node) (o c : ℕ) where
       skip true = refl
       skip false = refl
   one_formula x at fs ks e (column.Formula kind) =
-      ap (λ q. length (cons_option (if is_number c q then Some (record { object = o; column = x.0; core = Rattle.sheet_columns.specs.declared.formula.Core.TheVariants.Truth true }) else None) (filter_map (formula_cell (schema_of nodes) o c) fs))) (ap (Rattle.std.specs.Prelude.option_and_then (λ (m : Node). m.above)) at)
+      ap (λ q. length (cons_option
+      (if is_number c q then Some (record { object = o; column = x.0; core = Rattle.sheet_columns.specs.declared.formula.Core.TheVariants.Truth true })
+      else None) (filter_map (formula_cell (schema_of nodes) o c) fs))) (ap (Rattle.std.specs.Prelude.option_and_then (λ (m : Node). m.above)) at)
       ∙ both (is_number c x.1.above)
     where
-      both : (b : Bool) → length (cons_option (if b then Some (record { object = o; column = x.0; core = Rattle.sheet_columns.specs.declared.formula.Core.TheVariants.Truth true }) else None) (filter_map (formula_cell (schema_of nodes) o c) fs)) ≡ length (cons_option (if b then Some x.0 else None) ks)
+      both : (b : Bool) →
+          length (cons_option
+          (if b then Some (record { object = o; column = x.0; core = Rattle.sheet_columns.specs.declared.formula.Core.TheVariants.Truth true }) else None)
+          (filter_map (formula_cell (schema_of nodes) o c) fs)) ≡ length (cons_option (if b then Some x.0 else None) ks)
       both true = ap suc e
       both false = e
 
-  all_formulas : (xs : List (ℕ × Node)) → AllByRecursion (IsNumbered nodes) xs → length (filter_map (formula_cell (schema_of nodes) o c) (filter_map (λ (x : ℕ × Node). as_formula x.0 x.1.column) xs)) ≡ length (filter_map (λ (x : ℕ × Node). if is_number c x.1.above then is_formula x.0 x.1.column else None) xs)
+  all_formulas : (xs : List (ℕ × Node)) → AllByRecursion (IsNumbered nodes) xs →
+      length (filter_map (formula_cell (schema_of nodes) o c) (filter_map (λ (x : ℕ × Node). as_formula x.0 x.1.column) xs)) ≡ length
+      (filter_map (λ (x : ℕ × Node). if is_number c x.1.above then is_formula x.0 x.1.column else None) xs)
   all_formulas [] h = refl
-  all_formulas (x ∷ xs) h = one_formula x h.0 (filter_map (λ (y : ℕ × Node). as_formula y.0 y.1.column) xs) (filter_map (λ (y : ℕ × Node). if is_number c y.1.above then is_formula y.0 y.1.column else None) xs) (all_formulas xs h.1) x.1.column
+  all_formulas (x ∷ xs) h =
+      one_formula x h.0 (filter_map (λ (y : ℕ × Node). as_formula y.0 y.1.column) xs)
+      (filter_map (λ (y : ℕ × Node). if is_number c y.1.above then is_formula y.0 y.1.column else None) xs) (all_formulas xs h.1) x.1.column
 
   pub formulas_counted : length (cells_of (schema_of nodes) o c) ≡ length (formula_columns nodes c)
   formulas_counted = all_formulas (enumerate_from 0 nodes) (numbered_from [] nodes 0 refl)
@@ -239,14 +265,17 @@ module _ (nodes : List Node) (s : State) (c p : ℕ) where
   pub objects_counted : length after.objects ≡ length s.objects + 1
   objects_counted = length_push s.objects (record { number = s.next; column = c; parent = Some p })
 
-  pub cells_counted : cell_count (book nodes after) ≡ cell_count (book nodes s) + (length (state_columns (schema_of nodes) c) + length (formula_columns nodes c))
+  pub cells_counted : cell_count (book nodes after) ≡ cell_count
+      (book nodes s) + (length (state_columns (schema_of nodes) c) + length (formula_columns nodes c))
   cells_counted =
       let new : LiveObject = record { number = s.next; column = c; parent = Some p } in
       let scs = state_columns (schema_of nodes) c in
-      let states = ap length (flat_map-append (λ (x : LiveObject). map (λ (k : StateColumn). (x.number, k.number)) (state_columns (schema_of nodes) x.column)) s.objects (new ∷ [])) ∙ length-append {A = ℕ × ℕ} (state_cells (book nodes s)) (map (λ (k : StateColumn). (s.next, k.number)) scs ++ []) in
+      let states = ap length (flat_map-append (λ (x : LiveObject). map (λ (k : StateColumn). (x.number, k.number)) (state_columns (schema_of nodes) x.column))
+      s.objects (new ∷ [])) ∙ length-append {A = ℕ × ℕ} (state_cells (book nodes s)) (map (λ (k : StateColumn). (s.next, k.number)) scs ++ []) in
       let new_states = length-append {A = ℕ × ℕ} (map (λ (k : StateColumn). (s.next, k.number)) scs) [] in
       let as_many = length-map {B = ℕ × ℕ} scs (λ (k : StateColumn). (s.next, k.number)) in
-      let formulas = ap length (flat_map-append (λ (x : LiveObject). cells_of (schema_of nodes) x.number x.column) s.objects (new ∷ [])) ∙ length-append (formula_cells (book nodes s)) (cells_of (schema_of nodes) s.next c ++ []) in
+      let formulas = ap length (flat_map-append (λ (x : LiveObject). cells_of (schema_of nodes) x.number x.column) s.objects (new ∷ []))
+      ∙ length-append (formula_cells (book nodes s)) (cells_of (schema_of nodes) s.next c ++ []) in
       let new_formulas = length-append (cells_of (schema_of nodes) s.next c) [] in
       let counted = formulas_counted nodes s.next c in
       omega (arith, states, new_states, as_many, formulas, new_formulas, counted)

@@ -36,15 +36,14 @@ use Rattle.sheet_state.proofs.SetRows.{row, cells_set, first_set, rising_set, dr
 use Rattle.sheet_state.proofs.Existing.{key, extent_there, row_there, some_of}
 use Rattle.sheet_state.proofs.WithSet.{all_mono, other_set, keys_kept}
 use Rattle.sheet_state.proofs.WithObject.{rising_push, object_well_formed}
-use Rattle.sheet_state.proofs.Newborn.{children_more, born_changed}
-use Rattle.sheet_state.proofs.Bearing.{states_rise, extents_rise, grown_rising, grown_drawn, live_cells, live_extents, no_children, set_front, insert_last, live_drawn, cells_drawn, objects_counted, cells_counted, values_counted, empty_extent}
+use Rattle.sheet_state.proofs.Newborn.{set_front, children_more, born_changed}
+use Rattle.sheet_state.proofs.Bearing.{states_rise, extents_rise, grown_rising, grown_drawn, live_cells, live_extents, no_children, insert_last}
+use Rattle.sheet_state.proofs.Bearing.{live_drawn, cells_drawn, objects_counted, cells_counted, values_counted, empty_extent}
 use Rattle.sheet_state.proofs.Back.{all_push}
+use Rattle.sheet_state.proofs.Starting.{empty_keys}
 
-empty_keys : (n : ℕ) (ks : List ℕ) → map key (map (empty_extent n) ks) ≡ map (λ (k : ℕ). (n, k)) ks
-empty_keys n [] = refl
-empty_keys n (k ∷ ks) = ap (λ l. (n, k) ∷ l) (empty_keys n ks)
-
-module _ (nodes : List Node) (t : Table) (sound : IsSound t) (c p place : ℕ) (r : SetRow) (f : FirstAt (is_set p c) t.extents place r) (counters : Counters) (next : counters.next ≡ t.counters.next + 1) where
+module _ (nodes : List Node) (t : Table) (sound : IsSound t) (c p place : ℕ) (r : SetRow) (f : FirstAt (is_set p c) t.extents place r) (counters : Counters)
+    (next : counters.next ≡ t.counters.next + 1) where
   abbrev n : ℕ
   n = t.counters.next
 
@@ -71,8 +70,10 @@ module _ (nodes : List Node) (t : Table) (sound : IsSound t) (c p place : ℕ) (
 
   pub state_born : state_of after ≡ s'
   state_born =
-      ap (λ (xs : List LiveObject). record { objects = xs; cells = cells_in (t.cells ++ map (new_cell n) scs); next = counters.next }) (filter_map-append _ t.objects (new_object_row n c p ∷ []))
-      ∙ ap (λ (xs : List StoredCell). record { objects = s'.objects; cells = xs; next = counters.next }) (filter_map-append _ t.cells (map (new_cell n) scs) ∙ ap (λ l. cells_in t.cells ++ l) (live_cells n scs))
+      ap (λ (xs : List LiveObject). record { objects = xs; cells = cells_in (t.cells ++ map (new_cell n) scs); next = counters.next })
+      (filter_map-append _ t.objects (new_object_row n c p ∷ []))
+      ∙ ap (λ (xs : List StoredCell). record { objects = s'.objects; cells = xs; next = counters.next }) (filter_map-append _ t.cells (map (new_cell n) scs)
+      ∙ ap (λ l. cells_in t.cells ++ l) (live_cells n scs))
       ∙ ap (λ (m : ℕ). record { objects = s'.objects; cells = s'.cells; next = m }) next
 
   held : set_at t.extents place ≡ r.set
@@ -86,7 +87,8 @@ module _ (nodes : List Node) (t : Table) (sound : IsSound t) (c p place : ℕ) (
       ap (insert value_cmp (Object n)) (held ∙ sym (set_found p c t.extents place r f) ∙ sound.children p c)
       ∙ insert_last n (objects_in t.objects) p c drawn_objects
 
-  children : (o k : ℕ) (b : Bool) → (c == k && o == p) ≡ b → set_in (cells_in changed) o k ≡ children_in (objects_in t.objects) o k ++ (if b then Object n ∷ [] else [])
+  children : (o k : ℕ) (b : Bool) → (c == k && o == p) ≡ b →
+      set_in (cells_in changed) o k ≡ children_in (objects_in t.objects) o k ++ (if b then Object n ∷ [] else [])
   children o k true e =
       let h = both_true (c == k) (o == p) e in
       let same_column = eqb-true c k h.0 in
@@ -99,7 +101,8 @@ module _ (nodes : List Node) (t : Table) (sound : IsSound t) (c p place : ℕ) (
       ∙ ap (λ m. children_in (objects_in t.objects) m k ++ Object n ∷ []) (sym same_object)
   children o k false e =
       ap (λ l. set_in l o k) (cells_set p c set t.extents place r sound.extents f)
-      ∙ other_set p c set o k (λ h. let t1 : (c == k && o == p) ≡ true = ap (λ x. x && o == p) (eq-eqb c k (sym h.1)) ∙ eq-eqb o p h.0 in cc) (cells_in t.extents)
+      ∙ other_set p c set o k (λ h. let t1 : (c == k && o == p) ≡ true = ap (λ x. x && o == p) (eq-eqb c k (sym h.1)) ∙ eq-eqb o p h.0 in
+      cc) (cells_in t.extents)
       ∙ sound.children o k
       ∙ sym (append-nil (children_in (objects_in t.objects) o k))
 
@@ -113,15 +116,24 @@ module _ (nodes : List Node) (t : Table) (sound : IsSound t) (c p place : ℕ) (
       let as_objects = ap (λ (u : State). length u.objects) state_born in
       let one_more = objects_counted nodes s c p in
       record {
-        objects = rising_push object_cmp t.objects (new_object_row n c p) sound.objects (all_mono (λ (x : ObjectRow). x.number < n) (λ (x : ObjectRow). nat_cmp x.number n ≡ Less) (λ x h. sym (nat_cmp_is x.number n Less h)) t.objects sound.objects_drawn);
-        cells = grown_rising (λ (k : StateColumn). k.number) (new_cell n) n (λ k. refl) (λ k. refl) t.cells scs sound.cells sound.cells_drawn (states_rise nodes c);
-        extents = grown_rising (λ (k : ℕ). k) (new_extent n) n (λ k. refl) (λ k. refl) changed cols (rising_set p c set t.extents place r f sound.extents) (drawn_set p c n set t.extents place r f sound.extents_drawn) (extents_rise nodes c);
+        objects = rising_push object_cmp t.objects (new_object_row n c p) sound.objects
+            (all_mono (λ (x : ObjectRow). x.number < n) (λ (x : ObjectRow). nat_cmp x.number n ≡ Less) (λ x h. sym (nat_cmp_is x.number n Less h)) t.objects
+            sound.objects_drawn);
+        cells = grown_rising (λ (k : StateColumn). k.number) (new_cell n) n (λ k. refl) (λ k. refl) t.cells scs sound.cells sound.cells_drawn
+            (states_rise nodes c);
+        extents = grown_rising (λ (k : ℕ). k) (new_extent n) n (λ k. refl) (λ k. refl) changed cols (rising_set p c set t.extents place r f sound.extents)
+            (drawn_set p c n set t.extents place r f sound.extents_drawn) (extents_rise nodes c);
         objects_drawn =
             all_push (λ (x : ObjectRow). x.number < counters.next) t.objects (new_object_row n c p)
-            (all_mono (λ (x : ObjectRow). x.number < n) (λ (x : ObjectRow). x.number < counters.next) (λ x h. more x.number (omega arith)) t.objects sound.objects_drawn)
+            (all_mono (λ (x : ObjectRow). x.number < n) (λ (x : ObjectRow). x.number < counters.next) (λ x h. more x.number (omega arith)) t.objects
+            sound.objects_drawn)
             (more n (omega arith));
-        cells_drawn = all_mono (λ (x : SetRow). x.object < n + 1) (λ (x : SetRow). x.object < counters.next) (λ x h. more x.object h) (t.cells ++ map (new_cell n) scs) (grown_drawn (λ (k : StateColumn). k.number) (new_cell n) n (λ k. refl) (λ k. refl) t.cells scs sound.cells_drawn);
-        extents_drawn = all_mono (λ (x : SetRow). x.object < n + 1) (λ (x : SetRow). x.object < counters.next) (λ x h. more x.object h) (changed ++ map (new_extent n) cols) (grown_drawn (λ (k : ℕ). k) (new_extent n) n (λ k. refl) (λ k. refl) changed cols (drawn_set p c n set t.extents place r f sound.extents_drawn));
+        cells_drawn = all_mono (λ (x : SetRow). x.object < n + 1) (λ (x : SetRow). x.object < counters.next) (λ x h. more x.object h)
+            (t.cells ++ map (new_cell n) scs)
+            (grown_drawn (λ (k : StateColumn). k.number) (new_cell n) n (λ k. refl) (λ k. refl) t.cells scs sound.cells_drawn);
+        extents_drawn = all_mono (λ (x : SetRow). x.object < n + 1) (λ (x : SetRow). x.object < counters.next) (λ x h. more x.object h)
+            (changed ++ map (new_extent n) cols)
+            (grown_drawn (λ (k : ℕ). k) (new_extent n) n (λ k. refl) (λ k. refl) changed cols (drawn_set p c n set t.extents place r f sound.extents_drawn));
         children = λ o k.
             ap (λ l. set_in l o k) (filter_map-append _ changed (map (new_extent n) cols) ∙ ap (λ l. cells_in changed ++ l) (live_extents n cols))
             ∙ set_front (cells_in changed) (map (empty_extent n) cols) o k (no_children n cols o k)
@@ -132,30 +144,39 @@ module _ (nodes : List Node) (t : Table) (sound : IsSound t) (c p place : ℕ) (
         counted_values = omega (arith, values, before, grown, as_state);
       }
 
-  module _ (tree : IsTree nodes) (m : IsMoment nodes (moment t)) (live : IsSome (object_at s.objects p)) (under : column_in (object_at s.objects p) ≡ above_of nodes c) (is : column_of nodes c ≡ Some column.Object) where
+  module _ (tree : IsTree nodes) (m : IsMoment nodes (moment t)) (live : IsSome (object_at s.objects p))
+      (under : column_in (object_at s.objects p) ≡ above_of nodes c) (is : column_of nodes c ≡ Some column.Object) where
     extents_born : map key (cells_in after.extents) ≡ extents_of nodes s'.objects
     extents_born =
         ap (map key) (filter_map-append _ changed (map (new_extent n) cols) ∙ ap (λ l. cells_in changed ++ l) (live_extents n cols))
         ∙ map-append key (cells_in changed) (map (empty_extent n) cols)
-        ∙ ap (λ l. l ++ map key (map (empty_extent n) cols)) (ap (map key) (cells_set p c set t.extents place r sound.extents f) ∙ keys_kept p c set (cells_in t.extents) ∙ m.extents)
+        ∙ ap (λ l. l ++ map key (map (empty_extent n) cols)) (ap (map key) (cells_set p c set t.extents place r sound.extents f)
+        ∙ keys_kept p c set (cells_in t.extents) ∙ m.extents)
         ∙ ap (λ l. extents_of nodes s.objects ++ l) (empty_keys n cols ∙ sym (append-nil (map (λ (k : ℕ). (n, k)) cols)))
-        ∙ sym (flat_map-append (λ (x : LiveObject). map (λ (k : ℕ). (x.number, k)) (object_columns nodes x.column)) s.objects (record { number = n; column = c; parent = Some p } ∷ []))
+        ∙ sym (flat_map-append (λ (x : LiveObject). map (λ (k : ℕ). (x.number, k)) (object_columns nodes x.column)) s.objects
+        (record { number = n; column = c; parent = Some p } ∷ []))
 
-    pub moment_born : counters.cells ≡ t.counters.cells + (length scs + length (formula_columns nodes c)) → first_full (book nodes s') ≡ None → IsMoment nodes (moment after)
+    pub moment_born : counters.cells ≡ t.counters.cells + (length scs + length (formula_columns nodes c)) → first_full (book nodes s') ≡ None →
+        IsMoment nodes (moment after)
     moment_born cells room =
         let grown = cells_counted nodes s c p in
         let before = m.cells in
         record {
           well_formed = subst (λ u. IsWellFormed (book nodes u)) (sym state_born) (object_well_formed nodes tree s m.well_formed c p live under is room);
           extents = extents_born ∙ ap (λ (u : State). extents_of nodes u.objects) (sym state_born);
-          cells = cells ∙ ap (λ k. k + (length scs + length (formula_columns nodes c))) before ∙ sym grown ∙ ap (λ u. cell_count (book nodes u)) (sym state_born);
+          cells = cells ∙ ap (λ k. k + (length scs + length (formula_columns nodes c))) before ∙ sym grown
+              ∙ ap (λ u. cell_count (book nodes u)) (sym state_born);
         }
 
     pub changed_born : AreChanged s s' (born_items nodes n c p)
     changed_born = born_changed nodes s m.well_formed c p (cells_drawn n t.cells sound.cells_drawn) (states_rise nodes c)
 
 -- the counters after say which limit is passed
-pub full_born : (nodes : List Node) (t : Table) → IsSound t → IsMoment nodes (moment t) → (c p : ℕ) (counters : Counters) → counters.next ≡ t.counters.next + 1 → counters.objects ≡ t.counters.objects + 1 → counters.cells ≡ t.counters.cells + (length (state_columns (schema_of nodes) c) + length (formula_columns nodes c)) → counters.values ≡ t.counters.values + length (firsts (state_columns (schema_of nodes) c)) → full_of counters.objects counters.cells counters.values counters.next ≡ first_full (book nodes (with_object (schema_of nodes) (state_of t) c p))
+pub full_born : (nodes : List Node) (t : Table) → IsSound t → IsMoment nodes (moment t) → (c p : ℕ) (counters : Counters) →
+    counters.next ≡ t.counters.next + 1 → counters.objects ≡ t.counters.objects + 1 →
+    counters.cells ≡ t.counters.cells + (length (state_columns (schema_of nodes) c) + length (formula_columns nodes c)) →
+    counters.values ≡ t.counters.values + length (firsts (state_columns (schema_of nodes) c)) →
+    full_of counters.objects counters.cells counters.values counters.next ≡ first_full (book nodes (with_object (schema_of nodes) (state_of t) c p))
 full_born nodes t sound m c p counters next objects cells values =
     let s = state_of t in
     let s' = with_object (schema_of nodes) s c p in
@@ -163,7 +184,8 @@ full_born nodes t sound m c p counters next objects cells values =
     let one_more = objects_counted nodes s c p in
     let before_objects = sound.counted_objects in
     let e1 : counters.objects ≡ length s'.objects = omega (arith, objects, one_more, before_objects) in
-    let e2 : counters.cells ≡ cell_count (book nodes s') = cells ∙ ap (λ k. k + (length scs + length (formula_columns nodes c))) m.cells ∙ sym (cells_counted nodes s c p) in
+    let e2 : counters.cells ≡ cell_count (book nodes s') = cells ∙ ap (λ k. k + (length scs + length (formula_columns nodes c))) m.cells
+    ∙ sym (cells_counted nodes s c p) in
     let e3 : counters.values ≡ stored_values s'.cells = values ∙ ap (λ k. k + length (firsts scs)) sound.counted_values ∙ sym (values_counted nodes s c p) in
     ap (λ a. full_of a counters.cells counters.values counters.next) e1
     ∙ ap (λ b. full_of (length s'.objects) b counters.values counters.next) e2
@@ -171,7 +193,8 @@ full_born nodes t sound m c p counters next objects cells values =
     ∙ ap (full_of (length s'.objects) (cell_count (book nodes s')) (stored_values s'.cells)) next
 
 -- an extent of a live object has a row
-pub extent_found : (nodes : List Node) (t : Table) (c p : ℕ) → IsMoment nodes (moment t) → IsSome (object_at (state_of t).objects p) → column_in (object_at (state_of t).objects p) ≡ above_of nodes c → column_of nodes c ≡ Some column.Object → position (is_set p c) t.extents ≡ None → ⊥
+pub extent_found : (nodes : List Node) (t : Table) (c p : ℕ) → IsMoment nodes (moment t) → IsSome (object_at (state_of t).objects p) →
+    column_in (object_at (state_of t).objects p) ≡ above_of nodes c → column_of nodes c ≡ Some column.Object → position (is_set p c) t.extents ≡ None → ⊥
 extent_found nodes t c p m live under is none =
     let x = some_of (object_at (state_of t).objects p) live in
     let up : above_of nodes c ≡ Some x.0.column = sym under ∙ ap column_in x.1 in

@@ -26,7 +26,8 @@ use Rattle.sheet_state.specs.Places.{Fits, Adds, OfAny, IsRowOf, IsOwnRow, Refer
 use Rattle.sheet_state.specs.Rows.{is_set, object_cmp, objects_in, moment, IsSound}
 use Rattle.sheet_state.proofs.Family.{knows_number}
 use Rattle.sheet_state.proofs.Relatives.{ns, closed_at, family_known, are_objects}
-use Rattle.sheet_state.proofs.Underneath.{one_of, right, all_at, object_placed, set_placed, row_child, in_live}
+use Rattle.sheet_state.proofs.Underneath.{all_at, object_placed, set_placed, row_child, in_live}
+use Rattle.sheet_state_references.proofs.Searched.{right, one_of}
 
 fits_none : (n : ℕ) → Fits n []
 fits_none n = λ k h. cc
@@ -35,13 +36,15 @@ not_there : (b : Bool) → b ≡ true → b ≡ false → ⊥
 not_there b e f = let clash : true ≡ false = sym e ∙ f in cc
 
 -- the places of all rows of objects that go
-pub covers_objects : (d : List Value) (rows : List ObjectRow) (places : List ℕ) → IsRising object_cmp rows → Adds (OfAny d (IsRowOf rows)) (length rows) [] places → Covers (buried d) rows places
+pub covers_objects : (d : List Value) (rows : List ObjectRow) (places : List ℕ) → IsRising object_cmp rows →
+    Adds (OfAny d (IsRowOf rows)) (length rows) [] places → Covers (buried d) rows places
 covers_objects d rows places rising a = record {
   fits = a.fits (fits_none (length rows));
   others = λ k e lt out. stays k e lt out (is_doomed d (get_or rows k e)) refl;
 }
   where
-    stays : (k : ℕ) (e : ObjectRow) → k < length rows → has k places ≡ false → (b : Bool) → is_doomed d (get_or rows k e) ≡ b → buried d (get_or rows k e) ≡ get_or rows k e
+    stays : (k : ℕ) (e : ObjectRow) → k < length rows → has k places ≡ false → (b : Bool) → is_doomed d (get_or rows k e) ≡ b →
+        buried d (get_or rows k e) ≡ get_or rows k e
     stays k e lt out true h =
         let r = get_or rows k e in
         let t = both_true r.live (contains (Object r.number) d) h in
@@ -64,7 +67,8 @@ pub record Touches (d : List Value) (rows : List SetRow) (k n : ℕ) : Type 0 wh
   pub doomed : contains (Object n) d ≡ true
   pub how : ((set_row rows k).object ≡ n) ⊎ (contains (Object n) (set_row rows k).set ≡ true)
 
-pub covers_sets : (d : List Value) (rows : List SetRow) (places : List ℕ) → ((v : Value) → contains v d ≡ true → (n : ℕ) × (v ≡ Object n)) → Fits (length rows) places → ((k n : ℕ) → k < length rows → Touches d rows k n → has k places ≡ true) → Covers (swept d) rows places
+pub covers_sets : (d : List Value) (rows : List SetRow) (places : List ℕ) → ((v : Value) → contains v d ≡ true → (n : ℕ) × (v ≡ Object n)) →
+    Fits (length rows) places → ((k n : ℕ) → k < length rows → Touches d rows k n → has k places ≡ true) → Covers (swept d) rows places
 covers_sets d rows places objects fits touched = record {
   fits = fits;
   others = λ k e lt out. subst (λ r. swept d r ≡ r) (get_or_default rows k none e lt) (stays k lt out (set_row rows k).live refl);
@@ -73,7 +77,8 @@ covers_sets d rows places objects fits touched = record {
     none : SetRow
     none = record { object = 0; column = 0; live = false; set = [] }
 
-    untouched : (k n : ℕ) → k < length rows → has k places ≡ false → (set_row rows k).live ≡ true → ((set_row rows k).object ≡ n) ⊎ (contains (Object n) (set_row rows k).set ≡ true) → contains (Object n) d ≡ false
+    untouched : (k n : ℕ) → k < length rows → has k places ≡ false → (set_row rows k).live ≡ true →
+        ((set_row rows k).object ≡ n) ⊎ (contains (Object n) (set_row rows k).set ≡ true) → contains (Object n) d ≡ false
     untouched k n lt out live how = at (contains (Object n) d) refl
       where
         at : (b : Bool) → contains (Object n) d ≡ b → contains (Object n) d ≡ false
@@ -81,14 +86,17 @@ covers_sets d rows places objects fits touched = record {
         at false e = e
 
     stays : (k : ℕ) → k < length rows → has k places ≡ false → (b : Bool) → (set_row rows k).live ≡ b → swept d (set_row rows k) ≡ set_row rows k
-    stays k lt out false live = ap (λ b. if b then (if contains (Object (set_row rows k).object) d then record (set_row rows k) { live = false; set = [] } else record (set_row rows k) { set = minus (set_row rows k).set d }) else set_row rows k) live
+    stays k lt out false live =
+        ap (λ b. if b then (if contains (Object (set_row rows k).object) d then record (set_row rows k) { live = false; set = [] }
+        else record (set_row rows k) { set = minus (set_row rows k).set d }) else set_row rows k) live
     stays k lt out true live =
         let r = set_row rows k in
         ap (λ b. if b then (if contains (Object r.object) d then record r { live = false; set = [] } else record r { set = minus r.set d }) else r) live
         ∙ ap (λ b. if b then record r { live = false; set = [] } else record r { set = minus r.set d }) (untouched k r.object lt out live (inl refl))
         ∙ ap (λ xs. record r { set = xs }) (nothing_lost d r.set (λ v e. other k lt out live v e))
       where
-        other : (k : ℕ) → k < length rows → has k places ≡ false → (set_row rows k).live ≡ true → (v : Value) → contains v (set_row rows k).set ≡ true → contains v d ≡ false
+        other : (k : ℕ) → k < length rows → has k places ≡ false → (set_row rows k).live ≡ true → (v : Value) → contains v (set_row rows k).set ≡ true →
+            contains v d ≡ false
         other k lt out live v e = at (contains v d) refl
           where
             at : (b : Bool) → contains v d ≡ b → contains v d ≡ false
@@ -97,12 +105,14 @@ covers_sets d rows places objects fits touched = record {
                 let w = objects v h in
                 ap (λ u. contains u d) w.1 ∙ untouched k w.0 lt out live (inr (ap (λ u. contains u (set_row rows k).set) (sym w.1) ∙ e))
 
-module _ (nodes : List Node) (t : Table) (sound : IsSound t) (m : IsMoment nodes (moment t)) (o : ℕ) (positive : 0 < o) (live : IsSome (object_at (objects_in t.objects) o)) (d : List Value) (f : IsFamily t.extents o d) where
+module _ (nodes : List Node) (t : Table) (sound : IsSound t) (m : IsMoment nodes (moment t)) (o : ℕ) (positive : 0 < o)
+    (live : IsSome (object_at (objects_in t.objects) o)) (d : List Value) (f : IsFamily t.extents o d) where
   only_objects : (v : Value) → contains v d ≡ true → (n : ℕ) × (v ≡ Object n)
   only_objects v e = let w = are_objects nodes t sound m o positive live d f v e in (w.0, w.1)
 
   -- the own cells of these objects, and those that refer to them
-  pub covers_cells : (references : List Reference) (own places : List ℕ) → IsListed references t → Adds (OfAny d (IsOwnRow t.cells)) (length t.cells) [] own → Adds (OfAny d (RefersTo t.cells references)) (length t.cells) own places → Covers (swept d) t.cells places
+  pub covers_cells : (references : List Reference) (own places : List ℕ) → IsListed references t → Adds (OfAny d (IsOwnRow t.cells)) (length t.cells) [] own →
+      Adds (OfAny d (RefersTo t.cells references)) (length t.cells) own places → Covers (swept d) t.cells places
   covers_cells references own places listed a b = covers_sets d t.cells places only_objects (b.fits (a.fits (fits_none (length t.cells)))) touched
     where
       touched : (k n : ℕ) → k < length t.cells → Touches d t.cells k n → has k places ≡ true
@@ -110,11 +120,16 @@ module _ (nodes : List Node) (t : Table) (sound : IsSound t) (m : IsMoment nodes
         | inl same ↦ b.kept k (a.found k (n, w.doomed, (lt, same)))
         | inr holds ↦
             let r = set_row t.cells k in
-            b.found k (n, w.doomed, (r.object, r.column, all_at (IsListedRow references) t.cells k _ listed lt w.live n holds, set_placed t.cells k sound.cells lt w.live))
+            b.found k (
+              n,
+              w.doomed,
+              (r.object, r.column, all_at (IsListedRow references) t.cells k _ listed lt w.live n holds, set_placed t.cells k sound.cells lt w.live),
+            )
       ]
 
   -- the own extents of these objects, and the one that the first stands in
-  pub covers_extents : (own places : List ℕ) → Adds (OfAny d (IsOwnRow t.extents)) (length t.extents) [] own → Adds (IsHomeOf t.objects t.extents o) (length t.extents) own places → Covers (swept d) t.extents places
+  pub covers_extents : (own places : List ℕ) → Adds (OfAny d (IsOwnRow t.extents)) (length t.extents) [] own →
+      Adds (IsHomeOf t.objects t.extents o) (length t.extents) own places → Covers (swept d) t.extents places
   covers_extents own places a b = covers_sets d t.extents places only_objects (b.fits (a.fits (fits_none (length t.extents)))) touched
     where
       known : (n : ℕ) → contains (Object n) d ≡ has_number (ns nodes t sound m o positive live d f) n
@@ -127,13 +142,22 @@ module _ (nodes : List Node) (t : Table) (sound : IsSound t) (m : IsMoment nodes
             let r = set_row t.extents k in
             let c = row_child t sound k n lt w.live holds in
             let x = c.0.object in
-            elim (one_of (x.number == o) (has_parent_in (ns nodes t sound m o positive live d f) x.parent) (sym (closed_at nodes t sound m o positive live d f x c.0.is_there) ∙ ap (has_number (ns nodes t sound m o positive live d f)) c.0.number ∙ sym (known n) ∙ w.doomed)) [
+            elim (one_of (x.number == o) (has_parent_in (ns nodes t sound m o positive live d f) x.parent)
+            (sym (closed_at nodes t sound m o positive live d f x c.0.is_there) ∙ ap (has_number (ns nodes t sound m o positive live d f)) c.0.number
+            ∙ sym (known n) ∙ w.doomed)) [
               | inl first ↦
                   let is : x.number ≡ o = eqb-true x.number o first in
                   let at = in_live (objects_in t.objects) x m.well_formed.rising c.0.is_there in
-                  b.found k (r.object, x, (ap (object_at (objects_in t.objects)) (sym is) ∙ at), c.0.parent, (ap (λ q. position (is_set r.object q) t.extents) c.1 ∙ set_placed t.extents k sound.extents lt w.live))
+                  b.found k (
+                    r.object,
+                    x,
+                    (ap (object_at (objects_in t.objects)) (sym is) ∙ at),
+                    c.0.parent,
+                    (ap (λ q. position (is_set r.object q) t.extents) c.1 ∙ set_placed t.extents k sound.extents lt w.live),
+                  )
               | inr under ↦
-                  let up : has_number (ns nodes t sound m o positive live d f) r.object ≡ true = ap (has_parent_in (ns nodes t sound m o positive live d f)) (sym c.0.parent) ∙ under in
+                  let up : has_number (ns nodes t sound m o positive live d f) r.object ≡ true =
+                  ap (has_parent_in (ns nodes t sound m o positive live d f)) (sym c.0.parent) ∙ under in
                   b.kept k (a.found k (r.object, (known r.object ∙ up), (lt, refl)))
             ]
       ]

@@ -26,10 +26,11 @@ use Rattle.sheet_state.specs.Births.{new_cell}
 use Rattle.sheet_state.specs.Deaths.{swept}
 use Rattle.sheet_state.specs.Kept.{schema_of}
 use Rattle.sheet_state.specs.Places.{IsListedRow, IsListed}
-use Rattle.sheet_state.proofs.Underneath.{one_of, right, all_in}
+use Rattle.sheet_state.proofs.Underneath.{all_in}
 use Rattle.sheet_state.proofs.WithObject.{all_both}
 use Rattle.sheet_state.proofs.WithSet.{all_mono}
 use Rattle.sheet_state.proofs.Without.{filter_all}
+use Rattle.sheet_state_references.proofs.Searched.{right, one_of}
 
 -- more references are listed
 pub record Grows (rs more : List Reference) : Type 0 where
@@ -65,7 +66,8 @@ row_swept rs d r h = at r.live (contains (Object r.object) d)
     at false c = h
 
 -- after objects are gone
-pub cells_swept : (rs : List Reference) (d : List Value) (rows : List SetRow) → AllByRecursion (IsListedRow rs) rows → AllByRecursion (IsListedRow rs) (map (swept d) rows)
+pub cells_swept : (rs : List Reference) (d : List Value) (rows : List SetRow) → AllByRecursion (IsListedRow rs) rows →
+    AllByRecursion (IsListedRow rs) (map (swept d) rows)
 cells_swept rs d rows h = all_map (IsListedRow rs) (swept d) rows (all_mono (IsListedRow rs) (λ r. IsListedRow rs (swept d r)) (row_swept rs d) rows h)
 
 -- after the rows of gone objects were dropped
@@ -78,27 +80,32 @@ no_object kind.Number (Number m) h n e = cc
 no_object kind.Text (Text s) h n e = cc
 no_object t v h n e = absurd h
 
-no_reference : (t : Kind) (one : Bool) (first : Option Value) → HasFittingFirst (column.State t one first) → (n : ℕ) → contains (Object n) (first_set first) ≡ true → ⊥
+no_reference : (t : Kind) (one : Bool) (first : Option Value) → HasFittingFirst (column.State t one first) → (n : ℕ) →
+    contains (Object n) (first_set first) ≡ true → ⊥
 no_reference t one None h n e = cc
 no_reference t one (Some v) h n e = no_object t v h n e
 
-new_row : (rs : List Reference) (nodes : List Node) → IsTree nodes → (o c : ℕ) (sc : StateColumn) → IsIn sc (state_columns (schema_of nodes) c) → IsListedRow rs (new_cell o sc)
+new_row : (rs : List Reference) (nodes : List Node) → IsTree nodes → (o c : ℕ) (sc : StateColumn) → IsIn sc (state_columns (schema_of nodes) c) →
+    IsListedRow rs (new_cell o sc)
 new_row rs nodes tree o c sc i = λ live n e.
     let m = column_there (schema_of nodes) c sc i in
     let fits = subst HasFittingFirst m.column (tree.fitting sc.number m.node m.at) in
     absurd (no_reference sc.kind sc.one sc.first fits n e)
 
 -- after an object came
-pub cells_born : (rs : List Reference) (nodes : List Node) → IsTree nodes → (o c : ℕ) (rows : List SetRow) → AllByRecursion (IsListedRow rs) rows → AllByRecursion (IsListedRow rs) (rows ++ map (new_cell o) (state_columns (schema_of nodes) c))
+pub cells_born : (rs : List Reference) (nodes : List Node) → IsTree nodes → (o c : ℕ) (rows : List SetRow) → AllByRecursion (IsListedRow rs) rows →
+    AllByRecursion (IsListedRow rs) (rows ++ map (new_cell o) (state_columns (schema_of nodes) c))
 cells_born rs nodes tree o c rows h =
     all_both (IsListedRow rs) rows (map (new_cell o) (state_columns (schema_of nodes) c)) h
-    (all_map (IsListedRow rs) (new_cell o) (state_columns (schema_of nodes) c) (all_from (λ sc. IsListedRow rs (new_cell o sc)) (state_columns (schema_of nodes) c) (new_row rs nodes tree o c)))
+    (all_map (IsListedRow rs) (new_cell o) (state_columns (schema_of nodes) c)
+    (all_from (λ sc. IsListedRow rs (new_cell o sc)) (state_columns (schema_of nodes) c) (new_row rs nodes tree o c)))
 
 -- after the references were dropped that none holds
 pub listed_held : (rs : List Reference) (t : Table) → IsListed rs t → IsListed (filter (is_held t.cells) rs) t
 listed_held rs t h = all_from (IsListedRow (filter (is_held t.cells) rs)) t.cells (λ r i live n e. held r i live n e)
   where
-    held : (r : SetRow) → IsIn r t.cells → r.live ≡ true → (n : ℕ) → contains (Object n) r.set ≡ true → holds reference_cmp (record { to = n; object = r.object; column = r.column }) (filter (is_held t.cells) rs) ≡ true
+    held : (r : SetRow) → IsIn r t.cells → r.live ≡ true → (n : ℕ) → contains (Object n) r.set ≡ true →
+        holds reference_cmp (record { to = n; object = r.object; column = r.column }) (filter (is_held t.cells) rs) ≡ true
     held r i live n e =
         let q : Reference = record { to = n; object = r.object; column = r.column } in
         let hit : holds_reference q r ≡ true =

@@ -1,5 +1,6 @@
 -- The items that a new object changes.
-use Rattle.std.proofs.Common.{◌≡◌, refl, sym, ap, ◌∙◌, subst, ℕ, ◌<◌, Bool, true, false, cond, List, [], ◌∷◌, ◌++◌, arith, Option, Some, None, eq-eqb, ◌⊎◌, inl, inr}
+use Rattle.std.proofs.Common.{◌≡◌, refl, sym, ap, ◌∙◌, subst, ℕ, ◌<◌, Bool, true, false, cond, List, [], ◌∷◌, ◌++◌, arith, Option, Some, None, eq-eqb, ◌⊎◌, inl}
+use Rattle.std.proofs.Common.{inr}
 use Rattle.std.specs.Prelude.{not, ◌==◌, ◌&&◌, ◌||◌, if◌then◌else◌, map, filter}
 use Rattle.std.specs.List.{filter_map, cons_option, list_any, AllByRecursion}
 use Rattle.std.specs.declared.cmp.Ordering.{Ordering}
@@ -34,11 +35,14 @@ use Rattle.sheet_state.proofs.WithObject.{found_kept, not_found, unborn}
 pub has_inserted : (x y : Item) (xs : List Item) → contains item_cmp x (insert item_cmp y xs) ≡ (is_eq (item_cmp x y) || contains item_cmp x xs)
 has_inserted x y [] = refl
 has_inserted x y (z ∷ zs) =
-    elim (item_cmp y z) as (λ o. item_cmp y z ≡ o → contains item_cmp x (by_order o (y ∷ z ∷ zs) (z ∷ zs) (z ∷ insert item_cmp y zs)) ≡ (is_eq (item_cmp x y) || (is_eq (item_cmp x z) || contains item_cmp x zs))) [
+    elim (item_cmp y z) as (λ o. item_cmp y z ≡ o →
+    contains item_cmp x
+    (by_order o (y ∷ z ∷ zs) (z ∷ zs) (z ∷ insert item_cmp y zs)) ≡ (is_eq (item_cmp x y) || (is_eq (item_cmp x z) || contains item_cmp x zs))) [
       | Less ↦ λ e. refl
       | Equal ↦ λ e.
           let same : y ≡ z = item_is y z (ap is_eq e) in
-          subst (λ w. (is_eq (item_cmp x z) || contains item_cmp x zs) ≡ (is_eq (item_cmp x w) || (is_eq (item_cmp x z) || contains item_cmp x zs))) (sym same) (twice (is_eq (item_cmp x z)) (contains item_cmp x zs))
+          subst (λ w. (is_eq (item_cmp x z) || contains item_cmp x zs) ≡ (is_eq (item_cmp x w) || (is_eq (item_cmp x z) || contains item_cmp x zs))) (sym same)
+          (twice (is_eq (item_cmp x z)) (contains item_cmp x zs))
       | Greater ↦ λ e. ap (λ b. is_eq (item_cmp x z) || b) (has_inserted x y zs) ∙ turned (is_eq (item_cmp x z)) (is_eq (item_cmp x y)) (contains item_cmp x zs)
     ] refl
   where
@@ -68,15 +72,17 @@ has_items x xs (y ∷ ys) =
     turned false true c = refl
     turned false false c = refl
 
-not_item : (i j : Item) → (i ≡ j → ⊥) → is_eq (item_cmp i j) ≡ false
-not_item i j ne = elim (is_eq (item_cmp i j)) as (λ b. is_eq (item_cmp i j) ≡ b → b ≡ false) [ true ↦ λ e. absurd (ne (item_is i j e)) | false ↦ λ e. refl ] refl
+pub not_item : (i j : Item) → (i ≡ j → ⊥) → is_eq (item_cmp i j) ≡ false
+not_item i j ne =
+    elim (is_eq (item_cmp i j)) as (λ b. is_eq (item_cmp i j) ≡ b → b ≡ false) [ true ↦ λ e. absurd (ne (item_is i j e)) | false ↦ λ e. refl ] refl
 
 none_among : (x : Item) (ys : List Item) → ((y : Item) → IsIn y ys → x ≡ y → ⊥) → among x ys ≡ false
 none_among x [] f = refl
 none_among x (y ∷ ys) f = ap (λ b. b || among x ys) (not_item x y (f y (inl refl))) ∙ none_among x ys (λ z i e. f z (inr i) e)
 
 -- only cells are among the items of first values
-not_stored_at : (x : Item) (n j : ℕ) (o : Option Value) (rest : List Item) → ((k : ℕ) → x ≡ Stored n k → ⊥) → among x (cons_option (first_item n j o) rest) ≡ among x rest
+not_stored_at : (x : Item) (n j : ℕ) (o : Option Value) (rest : List Item) → ((k : ℕ) → x ≡ Stored n k → ⊥) →
+    among x (cons_option (first_item n j o) rest) ≡ among x rest
 not_stored_at x n j None rest ne = refl
 not_stored_at x n j (Some v) rest ne = ap (λ b. b || among x rest) (not_item x (Stored n j) (ne j))
 
@@ -96,7 +102,7 @@ set_of_other n o k ne (c ∷ cs) =
     apart : (a b : ℕ) → (a ≡ b → ⊥) → (a == b) ≡ false
     apart a b h = elim (a == b) as (λ t. (a == b) ≡ t → t ≡ false) [ true ↦ λ e. absurd (h (eqb-true a b e)) | false ↦ λ e. refl ] refl
 
-set_front : (xs ys : List StoredCell) (o k : ℕ) → set_in ys o k ≡ [] → set_in (xs ++ ys) o k ≡ set_in xs o k
+pub set_front : (xs ys : List StoredCell) (o k : ℕ) → set_in ys o k ≡ [] → set_in (xs ++ ys) o k ≡ set_in xs o k
 set_front [] ys o k e = e
 set_front (x ∷ xs) ys o k e = ap (λ l. if x.object == o && x.column == k then x.set else l) (set_front xs ys o k e)
 
@@ -127,33 +133,41 @@ columns_apart c d k e less same =
     let tied : nat_cmp c.number d.number ≡ Equal = sym (nat_cmp_is c.number d.number Equal (e ∙ same)) in
     cc
 
-later_set : (n k : ℕ) (c : StateColumn) (cs : List StateColumn) → c.number ≡ k → IsBelow column_cmp c cs → among (Stored n k) (filter_map (item_of n) cs) ≡ false
+later_set : (n k : ℕ) (c : StateColumn) (cs : List StateColumn) → c.number ≡ k → IsBelow column_cmp c cs →
+    among (Stored n k) (filter_map (item_of n) cs) ≡ false
 later_set n k c [] e b = refl
 later_set n k c (d ∷ ds) e b = later_at n k d.number d.first (filter_map (item_of n) ds) (columns_apart c d k e b.0) ∙ later_set n k c ds e b.1
 
 -- a new cell's item is among the items where its set isn't empty
-first_among : (n k : ℕ) (scs : List StateColumn) → IsRising column_cmp scs → among (Stored n k) (filter_map (item_of n) scs) ≡ is_some_set (set_in (map (newborn n) scs) n k)
+first_among : (n k : ℕ) (scs : List StateColumn) → IsRising column_cmp scs →
+    among (Stored n k) (filter_map (item_of n) scs) ≡ is_some_set (set_in (map (newborn n) scs) n k)
 first_among n k [] r = refl
 first_among n k (c ∷ cs) r =
-    elim (c.number == k) as (λ b. (c.number == k) ≡ b → among (Stored n k) (cons_option (first_item n c.number c.first) (filter_map (item_of n) cs)) ≡ is_some_set (if n == n && b then first_set c.first else set_in (map (newborn n) cs) n k)) [
+    elim (c.number == k) as (λ b. (c.number == k) ≡ b →
+    among (Stored n k) (cons_option (first_item n c.number c.first) (filter_map (item_of n) cs)) ≡ is_some_set (if n == n && b then first_set c.first
+    else set_in (map (newborn n) cs) n k)) [
       | true ↦ λ e. here e c.first ∙ ap (λ b. is_some_set (if b && true then first_set c.first else set_in (map (newborn n) cs) n k)) (sym (eq-eqb n n refl))
-      | false ↦ λ e. away e c.first ∙ first_among n k cs r.1 ∙ ap (λ b. is_some_set (if b && false then first_set c.first else set_in (map (newborn n) cs) n k)) (sym (eq-eqb n n refl))
+      | false ↦ λ e. away e c.first ∙ first_among n k cs r.1 ∙ ap (λ b. is_some_set (if b && false then first_set c.first else set_in (map (newborn n) cs) n k))
+          (sym (eq-eqb n n refl))
     ] refl
   where
-    here : (c.number == k) ≡ true → (o : Option Value) → among (Stored n k) (cons_option (first_item n c.number o) (filter_map (item_of n) cs)) ≡ is_some_set (first_set o)
+    here : (c.number == k) ≡ true → (o : Option Value) →
+        among (Stored n k) (cons_option (first_item n c.number o) (filter_map (item_of n) cs)) ≡ is_some_set (first_set o)
     here e None = later_set n k c cs (eqb-true c.number k e) r.0
     here e (Some v) =
         let same = eqb-true c.number k e in
         ap (λ j. is_eq (item_cmp (Stored n k) (Stored n j)) || among (Stored n k) (filter_map (item_of n) cs)) same
         ∙ ap (λ b. b || among (Stored n k) (filter_map (item_of n) cs)) (item_itself (Stored n k))
 
-    away : (c.number == k) ≡ false → (o : Option Value) → among (Stored n k) (cons_option (first_item n c.number o) (filter_map (item_of n) cs)) ≡ among (Stored n k) (filter_map (item_of n) cs)
+    away : (c.number == k) ≡ false → (o : Option Value) →
+        among (Stored n k) (cons_option (first_item n c.number o) (filter_map (item_of n) cs)) ≡ among (Stored n k) (filter_map (item_of n) cs)
     away e None = refl
     away e (Some v) =
         ap (λ b. b || among (Stored n k) (filter_map (item_of n) cs))
         (not_item (Stored n k) (Stored n c.number) (λ h. let same : k ≡ c.number = cc in let t : (c.number == k) ≡ true = eq-eqb c.number k (sym same) in cc))
 
-pub children_more : (xs : List LiveObject) (x : LiveObject) (o c : ℕ) → children_in (xs ++ x ∷ []) o c ≡ children_in xs o c ++ (if is_child o c x then Object x.number ∷ [] else [])
+pub children_more : (xs : List LiveObject) (x : LiveObject) (o c : ℕ) →
+    children_in (xs ++ x ∷ []) o c ≡ children_in xs o c ++ (if is_child o c x then Object x.number ∷ [] else [])
 children_more xs x o c =
     ap (map (λ (y : LiveObject). Object y.number)) (filter-append (is_child o c) xs (x ∷ []))
     ∙ map-append (λ (y : LiveObject). Object y.number) (filter (is_child o c) xs) (filter (is_child o c) (x ∷ []))
@@ -170,7 +184,8 @@ longer xs v = sets_differ xs (xs ++ v ∷ []) (λ e. grows xs e)
     grows [] e = cc
     grows (y ∷ ys) e = let tail : ys ≡ ys ++ v ∷ [] = cc in grows ys tail
 
-module _ (nodes : List Node) (s : State) (w : IsWellFormed (book nodes s)) (c p : ℕ) (cells_drawn : AllByRecursion (λ (x : StoredCell). x.object < s.next) s.cells) (rising : IsRising column_cmp (state_columns (schema_of nodes) c)) where
+module _ (nodes : List Node) (s : State) (w : IsWellFormed (book nodes s)) (c p : ℕ)
+    (cells_drawn : AllByRecursion (λ (x : StoredCell). x.object < s.next) s.cells) (rising : IsRising column_cmp (state_columns (schema_of nodes) c)) where
   abbrev after : State
   after = with_object (schema_of nodes) s c p
 
@@ -200,7 +215,10 @@ module _ (nodes : List Node) (s : State) (w : IsWellFormed (book nodes s)) (c p 
       at (Some x) e = found_kept s.objects (new ∷ []) o x e ∙ sym e
 
   -- whether an item is one of those that a new object changes
-  has : (i : Item) → contains item_cmp i (born_items nodes n c p) ≡ (among i (filter_map (item_of n) scs) || (is_eq (item_cmp i (Extent p c)) || (is_eq (item_cmp i (Up n)) || (is_eq (item_cmp i (Live n)) || false))))
+  has : (i : Item) →
+      contains item_cmp i
+      (born_items nodes n c p) ≡ (among i (filter_map (item_of n) scs) ||
+      (is_eq (item_cmp i (Extent p c)) || (is_eq (item_cmp i (Up n)) || (is_eq (item_cmp i (Live n)) || false))))
   has i =
       has_items i (insert item_cmp (Extent p c) (insert item_cmp (Up n) (insert item_cmp (Live n) []))) (filter_map (item_of n) scs)
       ∙ ap (λ b. among i (filter_map (item_of n) scs) || b)
@@ -208,10 +226,14 @@ module _ (nodes : List Node) (s : State) (w : IsWellFormed (book nodes s)) (c p 
       ∙ ap (λ b. is_eq (item_cmp i (Extent p c)) || b) (has_inserted i (Up n) (insert item_cmp (Live n) [])))
 
   decide : (o : ℕ) → (o ≡ n) ⊎ (o ≡ n → ⊥)
-  decide o = elim (o == n) as (λ b. (o == n) ≡ b → (o ≡ n) ⊎ (o ≡ n → ⊥)) [ true ↦ λ e. inl (eqb-true o n e) | false ↦ λ e. inr (λ h. let t : (o == n) ≡ true = eq-eqb o n h in cc) ] refl
+  decide o = elim (o == n) as (λ b. (o == n) ≡ b → (o ≡ n) ⊎ (o ≡ n → ⊥)) [
+    | true ↦ λ e. inl (eqb-true o n e)
+    | false ↦ λ e. inr (λ h. let t : (o == n) ≡ true = eq-eqb o n h in cc)
+  ] refl
 
   -- an item that is none of these
-  none_of : (i : Item) → among i (filter_map (item_of n) scs) ≡ false → (i ≡ Extent p c → ⊥) → (i ≡ Up n → ⊥) → (i ≡ Live n → ⊥) → contains item_cmp i (born_items nodes n c p) ≡ false
+  none_of : (i : Item) → among i (filter_map (item_of n) scs) ≡ false → (i ≡ Extent p c → ⊥) → (i ≡ Up n → ⊥) → (i ≡ Live n → ⊥) →
+      contains item_cmp i (born_items nodes n c p) ≡ false
   none_of i a e u l =
       has i
       ∙ ap (λ b. b || (is_eq (item_cmp i (Extent p c)) || (is_eq (item_cmp i (Up n)) || (is_eq (item_cmp i (Live n)) || false)))) a
@@ -231,8 +253,10 @@ module _ (nodes : List Node) (s : State) (w : IsWellFormed (book nodes s)) (c p 
   live_changed o (inl e) =
       subst (λ m. contains item_cmp (Live m) (born_items nodes n c p) ≡ is_changed s after (Live m)) (sym e)
       (has (Live n)
-      ∙ or_true (among (Live n) (filter_map (item_of n) scs)) _ (or_true (is_eq (item_cmp (Live n) (Extent p c))) _ (or_true (is_eq (item_cmp (Live n) (Up n))) _ (ap (λ b. b || false) (item_itself (Live n)))))
-      ∙ sym (ap (λ q. not (numbers_equal (column_in q) (column_in (object_at after.objects n)))) none_before ∙ ap (λ q. not (numbers_equal None (column_in q))) there))
+      ∙ or_true (among (Live n) (filter_map (item_of n) scs)) _
+      (or_true (is_eq (item_cmp (Live n) (Extent p c))) _ (or_true (is_eq (item_cmp (Live n) (Up n))) _ (ap (λ b. b || false) (item_itself (Live n)))))
+      ∙ sym (ap (λ q. not (numbers_equal (column_in q) (column_in (object_at after.objects n)))) none_before
+      ∙ ap (λ q. not (numbers_equal None (column_in q))) there))
   live_changed o (inr ne) =
       none_of (Live o) (not_stored (Live o) n scs (λ k h. cc)) (λ h. cc) (λ h. cc) (λ h. let same : o ≡ n = cc in ne same)
       ∙ sym (not_changed s after (Live o) (ap (λ q. column_content (column_in q)) (sym (elsewhere o ne))))
@@ -241,8 +265,10 @@ module _ (nodes : List Node) (s : State) (w : IsWellFormed (book nodes s)) (c p 
   up_changed o (inl e) =
       subst (λ m. contains item_cmp (Up m) (born_items nodes n c p) ≡ is_changed s after (Up m)) (sym e)
       (has (Up n)
-      ∙ or_true (among (Up n) (filter_map (item_of n) scs)) _ (or_true (is_eq (item_cmp (Up n) (Extent p c))) _ (ap (λ b. b || (is_eq (item_cmp (Up n) (Live n)) || false)) (item_itself (Up n))))
-      ∙ sym (ap (λ q. not (numbers_equal (parent_in q) (parent_in (object_at after.objects n)))) none_before ∙ ap (λ q. not (numbers_equal None (parent_in q))) there))
+      ∙ or_true (among (Up n) (filter_map (item_of n) scs)) _
+      (or_true (is_eq (item_cmp (Up n) (Extent p c))) _ (ap (λ b. b || (is_eq (item_cmp (Up n) (Live n)) || false)) (item_itself (Up n))))
+      ∙ sym (ap (λ q. not (numbers_equal (parent_in q) (parent_in (object_at after.objects n)))) none_before
+      ∙ ap (λ q. not (numbers_equal None (parent_in q))) there))
   up_changed o (inr ne) =
       none_of (Up o) (not_stored (Up o) n scs (λ k h. cc)) (λ h. cc) (λ h. let same : o ≡ n = cc in ne same) (λ h. cc)
       ∙ sym (not_changed s after (Up o) (ap (λ q. Parent (parent_in q)) (sym (elsewhere o ne))))
@@ -252,8 +278,11 @@ module _ (nodes : List Node) (s : State) (w : IsWellFormed (book nodes s)) (c p 
       let h = both_true (c == k) (o == p) e in
       let same : Extent o k ≡ Extent p c = ap (λ m. Extent m k) (eqb-true o p h.1) ∙ ap (Extent p) (sym (eqb-true c k h.0)) in
       has (Extent o k)
-      ∙ or_true (among (Extent o k) (filter_map (item_of n) scs)) _ (ap (λ x. x || (is_eq (item_cmp (Extent o k) (Up n)) || (is_eq (item_cmp (Extent o k) (Live n)) || false))) (subst (λ x. is_eq (item_cmp (Extent o k) x) ≡ true) same (item_itself (Extent o k))))
-      ∙ sym (ap (λ l. not (sets_equal (children_in s.objects o k) l)) (children_more s.objects new o k ∙ ap (λ t. children_in s.objects o k ++ (if t then Object n ∷ [] else [])) e) ∙ ap not (longer (children_in s.objects o k) (Object n)))
+      ∙ or_true (among (Extent o k) (filter_map (item_of n) scs)) _
+      (ap (λ x. x || (is_eq (item_cmp (Extent o k) (Up n)) || (is_eq (item_cmp (Extent o k) (Live n)) || false)))
+      (subst (λ x. is_eq (item_cmp (Extent o k) x) ≡ true) same (item_itself (Extent o k))))
+      ∙ sym (ap (λ l. not (sets_equal (children_in s.objects o k) l)) (children_more s.objects new o k
+      ∙ ap (λ t. children_in s.objects o k ++ (if t then Object n ∷ [] else [])) e) ∙ ap not (longer (children_in s.objects o k) (Object n)))
   extent_changed o k false e =
       none_of (Extent o k) (not_stored (Extent o k) n scs (λ j h. cc))
       (λ h.
@@ -262,18 +291,23 @@ module _ (nodes : List Node) (s : State) (w : IsWellFormed (book nodes s)) (c p 
       let t : (c == k && o == p) ≡ true = ap (λ x. x && o == p) (eq-eqb c k (sym same_column)) ∙ eq-eqb o p same_object in
       cc)
       (λ h. cc) (λ h. cc)
-      ∙ sym (not_changed s after (Extent o k) (ap Members (sym (children_more s.objects new o k ∙ ap (λ t. children_in s.objects o k ++ (if t then Object n ∷ [] else [])) e ∙ append-nil (children_in s.objects o k)))))
+      ∙ sym (not_changed s after (Extent o k)
+      (ap Members (sym (children_more s.objects new o k ∙ ap (λ t. children_in s.objects o k ++ (if t then Object n ∷ [] else [])) e
+      ∙ append-nil (children_in s.objects o k)))))
 
   stored_changed : (o k : ℕ) → (o ≡ n) ⊎ (o ≡ n → ⊥) → contains item_cmp (Stored o k) (born_items nodes n c p) ≡ is_changed s after (Stored o k)
   stored_changed o k (inl e) =
       subst (λ m. contains item_cmp (Stored m k) (born_items nodes n c p) ≡ is_changed s after (Stored m k)) (sym e)
       (has (Stored n k)
-      ∙ ap (λ b. among (Stored n k) (filter_map (item_of n) scs) || (b || (is_eq (item_cmp (Stored n k) (Up n)) || (is_eq (item_cmp (Stored n k) (Live n)) || false)))) (not_item (Stored n k) (Extent p c) (λ h. cc))
-      ∙ ap (λ b. among (Stored n k) (filter_map (item_of n) scs) || (b || (is_eq (item_cmp (Stored n k) (Live n)) || false))) (not_item (Stored n k) (Up n) (λ h. cc))
+      ∙ ap (λ b. among (Stored n k) (filter_map (item_of n) scs) ||
+      (b || (is_eq (item_cmp (Stored n k) (Up n)) || (is_eq (item_cmp (Stored n k) (Live n)) || false)))) (not_item (Stored n k) (Extent p c) (λ h. cc))
+      ∙ ap (λ b. among (Stored n k) (filter_map (item_of n) scs) || (b || (is_eq (item_cmp (Stored n k) (Live n)) || false)))
+      (not_item (Stored n k) (Up n) (λ h. cc))
       ∙ ap (λ b. among (Stored n k) (filter_map (item_of n) scs) || (b || false)) (not_item (Stored n k) (Live n) (λ h. cc))
       ∙ or_false (among (Stored n k) (filter_map (item_of n) scs))
       ∙ first_among n k scs rising
-      ∙ sym (ap (λ l. not (sets_equal l (set_in after.cells n k))) (no_set s.cells n k cells_drawn) ∙ ap (λ l. not (sets_equal [] l)) (set_back s.cells (map (newborn n) scs) n k cells_drawn)))
+      ∙ sym (ap (λ l. not (sets_equal l (set_in after.cells n k))) (no_set s.cells n k cells_drawn)
+      ∙ ap (λ l. not (sets_equal [] l)) (set_back s.cells (map (newborn n) scs) n k cells_drawn)))
   stored_changed o k (inr ne) =
       none_of (Stored o k) (not_stored (Stored o k) n scs (λ j h. let same : o ≡ n = cc in ne same)) (λ h. cc) (λ h. cc) (λ h. cc)
       ∙ sym (not_changed s after (Stored o k) (ap Members (sym (set_front s.cells (map (newborn n) scs) o k (set_of_other n o k (λ e. ne (sym e)) scs)))))

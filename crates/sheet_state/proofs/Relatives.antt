@@ -19,19 +19,17 @@ use Rattle.sheet_state.specs.Places.{AreSmall}
 use Rattle.sheet_state.specs.Rows.{objects_in, state_of, moment, IsSound}
 use Rattle.sheet_state.proofs.Existing.{live_in, some_of}
 use Rattle.sheet_state.proofs.Family.{Knows}
-use Rattle.sheet_state.proofs.Underneath.{all_in, right, up_child, down_child, number_in}
+use Rattle.sheet_state.proofs.Underneath.{all_in, up_child, down_child, number_in}
 use Rattle.sheet_state.proofs.Without.{IsClosed, family_closed}
-
-left : (a b : Bool) → a ≡ true → (a || b) ≡ true
-left true b e = refl
-left false b e = cc
+use Rattle.sheet_state_references.proofs.Searched.{right, left}
 
 module _ (nodes : List Node) (t : Table) (sound : IsSound t) (m : IsMoment nodes (moment t)) where
   abbrev xs : List LiveObject
   xs = objects_in t.objects
 
   lower : (x : LiveObject) (p : ℕ) → IsIn x xs → x.parent ≡ Some p → p < x.number
-  lower x p i e = (subst (IsUnder (book nodes (state_of t)) x) e (all_in (λ (y : LiveObject). IsUnder (book nodes (state_of t)) y y.parent) xs x m.well_formed.under i)).0
+  lower x p i e = (subst (IsUnder (book nodes (state_of t)) x) e
+      (all_in (λ (y : LiveObject). IsUnder (book nodes (state_of t)) y y.parent) xs x m.well_formed.under i)).0
 
   -- what stands under an object has a greater number
   pub descends : Descends t.extents
@@ -57,7 +55,8 @@ module _ (nodes : List Node) (t : Table) (sound : IsSound t) (m : IsMoment nodes
     goes : GoesDown t.extents (has_number ns)
     goes p n h u =
         let k = up_child t sound p n u in
-        ap (has_number ns) (sym k.number) ∙ closed_at k.object k.is_there ∙ right (k.object.number == o) (has_parent_in ns k.object.parent) (ap (has_parent_in ns) k.parent ∙ h)
+        ap (has_number ns) (sym k.number) ∙ closed_at k.object k.is_there
+        ∙ right (k.object.number == o) (has_parent_in ns k.object.parent) (ap (has_parent_in ns) k.parent ∙ h)
 
     parents : (q : Option ℕ) → has_parent_in ns q ≡ has_parent (has_number ns) q
     parents None = refl
@@ -72,7 +71,10 @@ module _ (nodes : List Node) (t : Table) (sound : IsSound t) (m : IsMoment nodes
         there : (j : ℕ) → has_number ns j ≡ true → (x : LiveObject) × IsIn x xs × (x.number ≡ j)
         there j e = elim (number_in o xs [] j e) [ inl none ↦ cc | inr is ↦ is ]
 
-        at : (j : ℕ) → has_number ns j ≡ true → (x : LiveObject) × (x.number ≡ j) × below.IsClosed (λ (x : LiveObject). x.number) (λ (x : LiveObject). x.parent) o (has_number ns) among x × below.Descends (λ (x : LiveObject). x.number) (λ (x : LiveObject). x.parent) o (has_number ns) among x × below.Follows (λ (x : LiveObject). x.number) (λ (x : LiveObject). x.parent) o (has_number ns) among x
+        at : (j : ℕ) → has_number ns j ≡ true →
+            (x : LiveObject) × (x.number ≡ j) × below.IsClosed (λ (x : LiveObject). x.number) (λ (x : LiveObject). x.parent) o (has_number ns) among
+            x × below.Descends (λ (x : LiveObject). x.number) (λ (x : LiveObject). x.parent) o (has_number ns) among x × below.Follows
+            (λ (x : LiveObject). x.number) (λ (x : LiveObject). x.parent) o (has_number ns) among x
         at j e =
             let x = there j e in (
               x.0,

@@ -1,5 +1,6 @@
 -- A row that is found by halving is the first that passes.
-use Rattle.std.proofs.Common.{◌≡◌, refl, sym, ap, ◌∙◌, subst, ℕ, ◌+◌, ◌<◌, ◌≤◌, zero, suc, Bool, true, false, cond, List, [], ◌∷◌, length, get_or, arith, Some, None, eq-eqb, Err, ◌⊎◌, inl, inr}
+use Rattle.std.proofs.Common.{◌≡◌, refl, sym, ap, ◌∙◌, subst, ℕ, ◌+◌, ◌<◌, ◌≤◌, zero, suc, Bool, true, false, cond, List, [], ◌∷◌, length, get_or, arith, Some}
+use Rattle.std.proofs.Common.{None, eq-eqb, Err, ◌⊎◌, inl, inr}
 use Rattle.std.specs.Prelude.{position, ◌==◌, ◌&&◌, if◌then◌else◌}
 use Rattle.std.specs.List.{position_from, AllByRecursion}
 use Rattle.std.specs.List.Sorted.{IsBinarySearchResult, IsNonDecreasingBy, IsPartitionPoint}
@@ -14,7 +15,7 @@ use Rattle.sheet_values.specs.Sorted.{IsBelow, IsRising}
 use Rattle.sheet_state_rows.specs.declared.row.ObjectRow.{ObjectRow}
 use Rattle.sheet_state_rows.specs.declared.row.SetRow.{SetRow}
 use Rattle.sheet_state.specs.Rows.{object_cmp, row_cmp, is_object, is_set}
-use Rattle.sheet_state.proofs.Without.{nat_less}
+use Rattle.sheet_state_references.proofs.Searched.{nat_less}
 
 -- how elements compare with what is looked for goes with their order
 pub record Follows {A : Type 0} (cmp : A → A → Ordering) (ord : A → Ordering) : Type 0 where
@@ -27,7 +28,8 @@ module _ {A : Type 0} (cmp : A → A → Ordering) (ord : A → Ordering) (live 
   test x = live x && is_eq (ord x)
 
   no : (x : A) → (ord x ≡ Equal → ⊥) → test x ≡ false
-  no x ne = elim (is_eq (ord x)) as (λ b. is_eq (ord x) ≡ b → (live x && b) ≡ false) [ true ↦ λ e. absurd (ne (tie (ord x) e)) | false ↦ λ e. never (live x) ] refl
+  no x ne = elim (is_eq (ord x)) as (λ b. is_eq (ord x) ≡ b → (live x && b) ≡ false) [ true ↦ λ e. absurd (ne (tie (ord x) e)) | false ↦ λ e. never (live x) ]
+      refl
     where
       tie : (r : Ordering) → is_eq r ≡ true → r ≡ Equal
       tie Less e = cc
@@ -51,7 +53,8 @@ module _ {A : Type 0} (cmp : A → A → Ordering) (ord : A → Ordering) (live 
   below_at x (y ∷ ys) zero d b lt = b.0
   below_at x (y ∷ ys) (suc k) d b lt = below_at x ys k d b.1 (omega arith)
 
-  found_from : (i : ℕ) (xs : List A) (k : ℕ) (d : A) → IsRising cmp xs → k < length xs → ord (get_or xs k d) ≡ Equal → position_from test i xs ≡ (if live (get_or xs k d) then Some (i + k) else None)
+  found_from : (i : ℕ) (xs : List A) (k : ℕ) (d : A) → IsRising cmp xs → k < length xs → ord (get_or xs k d) ≡ Equal →
+      position_from test i xs ≡ (if live (get_or xs k d) then Some (i + k) else None)
   found_from i [] k d r lt e = absurd (omega arith)
   found_from i (x ∷ xs) zero d r lt e =
       ap (λ o. cond (live x && is_eq o) (Some i) (position_from test (i + 1) xs)) e
@@ -68,8 +71,10 @@ module _ {A : Type 0} (cmp : A → A → Ordering) (ord : A → Ordering) (live 
       ∙ found_from (i + 1) xs k d r.1 (omega arith) e
       ∙ ap (λ n. if live (get_or xs k d) then Some n else None) (let s : i + 1 + k ≡ i + suc k = omega arith in s)
 
-  pub found : (xs : List A) (k : ℕ) (d : A) → IsRising cmp xs → k < length xs → ord (get_or xs k d) ≡ Equal → position test xs ≡ (if live (get_or xs k d) then Some k else None)
-  found xs k d r lt e = position_from-zero test xs ∙ found_from 0 xs k d r lt e ∙ ap (λ n. if live (get_or xs k d) then Some n else None) (let z : 0 + k ≡ k = omega arith in z)
+  pub found : (xs : List A) (k : ℕ) (d : A) → IsRising cmp xs → k < length xs → ord (get_or xs k d) ≡ Equal →
+      position test xs ≡ (if live (get_or xs k d) then Some k else None)
+  found xs k d r lt e =
+      position_from-zero test xs ∙ found_from 0 xs k d r lt e ∙ ap (λ n. if live (get_or xs k d) then Some n else None) (let z : 0 + k ≡ k = omega arith in z)
 
   rising_at : (xs : List A) (i j : ℕ) (d : A) → IsRising cmp xs → i < j → j < length xs → cmp (get_or xs i d) (get_or xs j d) ≡ Less
   rising_at [] i j d r lt h = absurd (omega arith)
@@ -82,7 +87,8 @@ module _ {A : Type 0} (cmp : A → A → Ordering) (ord : A → Ordering) (live 
     where
       at : (a b : ℕ) (e : A) → a ≤ b → b < length xs → (a < b) ⊎ (b ≤ a) → ordering_index (ord (get_or xs a e)) ≤ ordering_index (ord (get_or xs b e))
       at a b e le lt (inl less) = follows.grows (get_or xs a e) (get_or xs b e) (rising_at xs a b e r less lt)
-      at a b e le lt (inr ge) = let same : a ≡ b = omega arith in subst (λ n. ordering_index (ord (get_or xs a e)) ≤ ordering_index (ord (get_or xs n e))) same (omega arith)
+      at a b e le lt (inr ge) = let same : a ≡ b = omega arith in
+          subst (λ n. ordering_index (ord (get_or xs a e)) ≤ ordering_index (ord (get_or xs n e))) same (omega arith)
 
   none_equal : (xs : List A) (i : ℕ) → ((j : ℕ) (d : A) → j < length xs → ord (get_or xs j d) ≡ Equal → ⊥) → AllByRecursion (λ x. test x ≡ false) xs
   none_equal [] i f = tt
@@ -93,7 +99,8 @@ module _ {A : Type 0} (cmp : A → A → Ordering) (ord : A → Ordering) (live 
       let parts = result (in_order xs r) in
       position_from-zero test xs ∙ none_left 0 xs (none_equal xs i (λ j d lt e. at j d lt e parts (cases_lt j i)))
     where
-      at : (j : ℕ) (d : A) → j < length xs → ord (get_or xs j d) ≡ Equal → IsPartitionPoint (λ y. ord y ≡ Less) (λ y. ord y ≡ Greater) xs i → (j < i) ⊎ (i ≤ j) → ⊥
+      at : (j : ℕ) (d : A) → j < length xs → ord (get_or xs j d) ≡ Equal → IsPartitionPoint (λ y. ord y ≡ Less) (λ y. ord y ≡ Greater) xs i →
+          (j < i) ⊎ (i ≤ j) → ⊥
       at j d lt e p (inl less) = let h = p.0 j d (omega arith) less in let clash : Less ≡ Equal = sym h ∙ e in cc
       at j d lt e p (inr ge) = let h = p.1 j d ge lt in let clash : Greater ≡ Equal = sym h ∙ e in cc
 
@@ -187,11 +194,13 @@ rows_follow o c = record {
         | inl h ↦
             elim (grows_number x.object y.object o (nat_less x.object y.object h)) [
               | inl e ↦ subst (λ r. ordering_index (ordering_then r (nat_cmp x.column c)) ≤ ordering_index (row_ord o c y)) (sym e) (index_less (row_ord o c y))
-              | inr e ↦ subst (λ r. ordering_index (row_ord o c x) ≤ ordering_index (ordering_then r (nat_cmp y.column c))) (sym e) (index_greater (row_ord o c x))
+              | inr e ↦ subst (λ r. ordering_index (row_ord o c x) ≤ ordering_index (ordering_then r (nat_cmp y.column c))) (sym e)
+                  (index_greater (row_ord o c x))
             ]
         | inr h ↦
             let tied = equal_numbers x.object y.object h.0 in
-            subst (λ n. ordering_index (ordering_then (nat_cmp x.object o) (nat_cmp x.column c)) ≤ ordering_index (ordering_then (nat_cmp n o) (nat_cmp y.column c))) tied
+            subst (λ n. ordering_index (ordering_then (nat_cmp x.object o) (nat_cmp x.column c)) ≤ ordering_index
+            (ordering_then (nat_cmp n o) (nat_cmp y.column c))) tied
             (by_column (nat_cmp x.object o) (nat_cmp x.column c) (nat_cmp y.column c) (grows_number x.column y.column c (nat_less x.column y.column h.1)))
       ];
 }
@@ -216,7 +225,8 @@ eq_number a n =
     ] refl
 
 pub object_tests : (o : ℕ) (rows : List ObjectRow) → position (λ (r : ObjectRow). r.live && is_eq (nat_cmp r.number o)) rows ≡ position (is_object o) rows
-object_tests o rows = position_same (λ (r : ObjectRow). r.live && is_eq (nat_cmp r.number o)) (is_object o) (λ r. ap (λ b. r.live && b) (eq_number r.number o)) rows
+object_tests o rows =
+    position_same (λ (r : ObjectRow). r.live && is_eq (nat_cmp r.number o)) (is_object o) (λ r. ap (λ b. r.live && b) (eq_number r.number o)) rows
 
 eq_then : (r s : Ordering) → is_eq (ordering_then r s) ≡ (is_eq r && is_eq s)
 eq_then Less s = refl
@@ -224,4 +234,7 @@ eq_then Equal s = refl
 eq_then Greater s = refl
 
 pub set_tests : (o c : ℕ) (rows : List SetRow) → position (λ (r : SetRow). r.live && is_eq (row_ord o c r)) rows ≡ position (is_set o c) rows
-set_tests o c rows = position_same (λ (r : SetRow). r.live && is_eq (row_ord o c r)) (is_set o c) (λ r. ap (λ b. r.live && b) (eq_then (nat_cmp r.object o) (nat_cmp r.column c) ∙ ap (λ b. b && is_eq (nat_cmp r.column c)) (eq_number r.object o) ∙ ap (λ b. r.object == o && b) (eq_number r.column c))) rows
+set_tests o c rows =
+    position_same (λ (r : SetRow). r.live && is_eq (row_ord o c r)) (is_set o c)
+    (λ r. ap (λ b. r.live && b) (eq_then (nat_cmp r.object o) (nat_cmp r.column c) ∙ ap (λ b. b && is_eq (nat_cmp r.column c)) (eq_number r.object o)
+    ∙ ap (λ b. r.object == o && b) (eq_number r.column c))) rows

@@ -1,5 +1,6 @@
 -- A row whose set is replaced.
-use Rattle.std.proofs.Common.{◌≡◌, refl, sym, ap, ◌∙◌, subst, ℕ, ◌+◌, ◌<◌, zero, suc, Bool, true, false, List, [], ◌∷◌, length, arith, Some, None, eq-eqb, zero-add}
+use Rattle.std.proofs.Common.{◌≡◌, refl, sym, ap, ◌∙◌, subst, ℕ, ◌+◌, ◌<◌, zero, suc, Bool, true, false, List, [], ◌∷◌, length, arith, Some, None, eq-eqb}
+use Rattle.std.proofs.Common.{zero-add}
 use Rattle.std.specs.Prelude.{slice_set, ◌==◌, ◌&&◌, if◌then◌else◌, map}
 use Rattle.std.specs.List.{cons_option, AllByRecursion}
 use Rattle.std.specs.declared.cmp.Ordering.TheVariants.{Less, Equal}
@@ -28,7 +29,7 @@ at o c r = r.object == o && r.column == c
 ties : (a b : ℕ) → a ≡ b → nat_cmp a b ≡ Equal
 ties a b e = sym (nat_cmp_is a b Equal e)
 
-both : (a b : Bool) → (a && b) ≡ true → (a ≡ true) × (b ≡ true)
+pub both : (a b : Bool) → (a && b) ≡ true → (a ≡ true) × (b ≡ true)
 both true b e = (refl, e)
 both false b e = cc
 
@@ -60,12 +61,16 @@ row o c set = record { object = o; column = c; live = true; set = set }
 row_passes : (o c : ℕ) (set : List Value) → is_set o c (row o c set) ≡ true
 row_passes o c set = ap (λ b. b && c == c) (eq-eqb o o refl) ∙ eq-eqb c c refl
 
-kept_cell : (o c : ℕ) (set : List Value) (q : SetRow) (b : Bool) (rest : List StoredCell) → (b && at o c q) ≡ false → map (set_of o c set) (cons_option (if b then Some (record { object = q.object; column = q.column; set = q.set }) else None) rest) ≡ cons_option (if b then Some (record { object = q.object; column = q.column; set = q.set }) else None) (map (set_of o c set) rest)
+kept_cell : (o c : ℕ) (set : List Value) (q : SetRow) (b : Bool) (rest : List StoredCell) → (b && at o c q) ≡ false →
+    map (set_of o c set) (cons_option (if b then Some (record { object = q.object; column = q.column; set = q.set }) else None) rest) ≡ cons_option
+    (if b then Some (record { object = q.object; column = q.column; set = q.set }) else None) (map (set_of o c set) rest)
 kept_cell o c set q true rest e =
-    ap (λ t. (if t then record { object = q.object; column = q.column; set = set } else record { object = q.object; column = q.column; set = q.set }) ∷ map (set_of o c set) rest) e
+    ap (λ t. (if t then record { object = q.object; column = q.column; set = set } else record { object = q.object; column = q.column; set = q.set }) ∷ map
+    (set_of o c set) rest) e
 kept_cell o c set q false rest e = refl
 
-untouched : (o c : ℕ) (set : List Value) (r : SetRow) (rows : List SetRow) → at o c r ≡ true → IsBelow row_cmp r rows → map (set_of o c set) (cells_in rows) ≡ cells_in rows
+untouched : (o c : ℕ) (set : List Value) (r : SetRow) (rows : List SetRow) → at o c r ≡ true → IsBelow row_cmp r rows →
+    map (set_of o c set) (cells_in rows) ≡ cells_in rows
 untouched o c set r [] e b = refl
 untouched o c set r (q ∷ rows) e b =
     kept_cell o c set q q.live (cells_in rows) (ap (λ t. q.live && t) (apart o c r q e b.0) ∙ never q.live)
@@ -75,16 +80,20 @@ untouched o c set r (q ∷ rows) e b =
     never true = refl
     never false = refl
 
-new_cell_is : (o c : ℕ) (set : List Value) (q : SetRow) (b : Bool) (rest : List StoredCell) → (b && at o c q) ≡ true → record { object = o; column = c; set = set } ∷ map (set_of o c set) rest ≡ map (set_of o c set) (cons_option (if b then Some (record { object = q.object; column = q.column; set = q.set }) else None) rest)
+new_cell_is : (o c : ℕ) (set : List Value) (q : SetRow) (b : Bool) (rest : List StoredCell) → (b && at o c q) ≡ true →
+    record { object = o; column = c; set = set } ∷ map (set_of o c set) rest ≡ map (set_of o c set)
+    (cons_option (if b then Some (record { object = q.object; column = q.column; set = q.set }) else None) rest)
 new_cell_is o c set q true rest e =
     let k = key_is o c q e in
     ap (λ n. record { object = n; column = c; set = set } ∷ map (set_of o c set) rest) (sym k.0)
     ∙ ap (λ n. record { object = q.object; column = n; set = set } ∷ map (set_of o c set) rest) (sym k.1)
-    ∙ ap (λ t. (if t then record { object = q.object; column = q.column; set = set } else record { object = q.object; column = q.column; set = q.set }) ∷ map (set_of o c set) rest) (sym e)
+    ∙ ap (λ t. (if t then record { object = q.object; column = q.column; set = set } else record { object = q.object; column = q.column; set = q.set }) ∷ map
+    (set_of o c set) rest) (sym e)
 new_cell_is o c set q false rest e = cc
 
 -- the cells after the row of one got another set
-pub cells_set : (o c : ℕ) (set : List Value) (rows : List SetRow) (k : ℕ) (r : SetRow) → IsRising row_cmp rows → FirstAt (is_set o c) rows k r → cells_in (slice_set rows k (row o c set)) ≡ map (set_of o c set) (cells_in rows)
+pub cells_set : (o c : ℕ) (set : List Value) (rows : List SetRow) (k : ℕ) (r : SetRow) → IsRising row_cmp rows → FirstAt (is_set o c) rows k r →
+    cells_in (slice_set rows k (row o c set)) ≡ map (set_of o c set) (cells_in rows)
 cells_set o c set [] k r rising f = absurd f
 cells_set o c set (q ∷ rows) zero r rising f =
     ap (λ l. record { object = o; column = c; set = set } ∷ l) (sym (untouched o c set q rows (passes o c q f.1).1 rising.0))
@@ -93,29 +102,34 @@ cells_set o c set (q ∷ rows) (suc k) r rising f =
     ap (cons_option (live_cell q)) (cells_set o c set rows k r rising.1 f.1) ∙ sym (kept_cell o c set q q.live (cells_in rows) f.0)
 
 -- the row stands where the old one stood
-pub first_set : (o c : ℕ) (set : List Value) (rows : List SetRow) (k : ℕ) (r : SetRow) → FirstAt (is_set o c) rows k r → FirstAt (is_set o c) (slice_set rows k (row o c set)) k (row o c set)
+pub first_set : (o c : ℕ) (set : List Value) (rows : List SetRow) (k : ℕ) (r : SetRow) → FirstAt (is_set o c) rows k r →
+    FirstAt (is_set o c) (slice_set rows k (row o c set)) k (row o c set)
 first_set o c set [] k r f = absurd f
 first_set o c set (q ∷ rows) zero r f = (refl, row_passes o c set)
 first_set o c set (q ∷ rows) (suc k) r f = (f.0, first_set o c set rows k r f.1)
 
 same_order : (p q r : SetRow) → q.object ≡ r.object → q.column ≡ r.column → row_cmp p q ≡ row_cmp p r
-same_order p q r e f = ap (λ n. ordering_then (nat_cmp p.object n) (nat_cmp p.column q.column)) e ∙ ap (λ n. ordering_then (nat_cmp p.object r.object) (nat_cmp p.column n)) f
+same_order p q r e f =
+    ap (λ n. ordering_then (nat_cmp p.object n) (nat_cmp p.column q.column)) e ∙ ap (λ n. ordering_then (nat_cmp p.object r.object) (nat_cmp p.column n)) f
 
 same_below : (q r : SetRow) (rows : List SetRow) → q.object ≡ r.object → q.column ≡ r.column → IsBelow row_cmp q rows → IsBelow row_cmp r rows
 same_below q r [] e f b = tt
 same_below q r (p ∷ rows) e f b = (
-  ap (λ n. ordering_then (nat_cmp n p.object) (nat_cmp r.column p.column)) (sym e) ∙ ap (λ n. ordering_then (nat_cmp q.object p.object) (nat_cmp n p.column)) (sym f) ∙ b.0,
+  ap (λ n. ordering_then (nat_cmp n p.object) (nat_cmp r.column p.column)) (sym e)
+      ∙ ap (λ n. ordering_then (nat_cmp q.object p.object) (nat_cmp n p.column)) (sym f) ∙ b.0,
   same_below q r rows e f b.1,
 )
 
-below_set : (o c : ℕ) (set : List Value) (p : SetRow) (rows : List SetRow) (k : ℕ) (r : SetRow) → FirstAt (is_set o c) rows k r → IsBelow row_cmp p rows → IsBelow row_cmp p (slice_set rows k (row o c set))
+below_set : (o c : ℕ) (set : List Value) (p : SetRow) (rows : List SetRow) (k : ℕ) (r : SetRow) → FirstAt (is_set o c) rows k r → IsBelow row_cmp p rows →
+    IsBelow row_cmp p (slice_set rows k (row o c set))
 below_set o c set p [] k r f b = absurd f
 below_set o c set p (q ∷ rows) zero r f b =
     let key = key_is o c q (passes o c q f.1).1 in
     (same_order p (row o c set) q (sym key.0) (sym key.1) ∙ b.0, b.1)
 below_set o c set p (q ∷ rows) (suc k) r f b = (b.0, below_set o c set p rows k r f.1 b.1)
 
-pub rising_set : (o c : ℕ) (set : List Value) (rows : List SetRow) (k : ℕ) (r : SetRow) → FirstAt (is_set o c) rows k r → IsRising row_cmp rows → IsRising row_cmp (slice_set rows k (row o c set))
+pub rising_set : (o c : ℕ) (set : List Value) (rows : List SetRow) (k : ℕ) (r : SetRow) → FirstAt (is_set o c) rows k r → IsRising row_cmp rows →
+    IsRising row_cmp (slice_set rows k (row o c set))
 rising_set o c set [] k r f b = absurd f
 rising_set o c set (q ∷ rows) zero r f b =
     let key = key_is o c q (passes o c q f.1).1 in
@@ -138,15 +152,18 @@ row_drawn o c n rows k r f h =
     let key = key_is o c r (passes o c r (first_passes (is_set o c) rows k r f)).1 in
     subst (λ m. m < n) key.0 below
 
-pub drawn_set : (o c n : ℕ) (set : List Value) (rows : List SetRow) (k : ℕ) (r : SetRow) → FirstAt (is_set o c) rows k r → AllByRecursion (λ (q : SetRow). q.object < n) rows → AllByRecursion (λ (q : SetRow). q.object < n) (slice_set rows k (row o c set))
+pub drawn_set : (o c n : ℕ) (set : List Value) (rows : List SetRow) (k : ℕ) (r : SetRow) → FirstAt (is_set o c) rows k r →
+    AllByRecursion (λ (q : SetRow). q.object < n) rows → AllByRecursion (λ (q : SetRow). q.object < n) (slice_set rows k (row o c set))
 drawn_set o c n set rows k r f h = all_set (λ (q : SetRow). q.object < n) rows k (row o c set) h (row_drawn o c n rows k r f h)
 
-size : (b : Bool) (x : StoredCell) (rest : List StoredCell) → stored_values (cons_option (if b then Some x else None) rest) ≡ (if b then length x.set else 0) + stored_values rest
+size : (b : Bool) (x : StoredCell) (rest : List StoredCell) →
+    stored_values (cons_option (if b then Some x else None) rest) ≡ (if b then length x.set else 0) + stored_values rest
 size true x rest = sum_by-cons (λ (y : StoredCell). length y.set) x rest
 size false x rest = sym (zero-add (stored_values rest))
 
 -- how many values are stored after
-pub values_set : (o c : ℕ) (set : List Value) (rows : List SetRow) (k : ℕ) (r : SetRow) → FirstAt (is_set o c) rows k r → stored_values (cells_in (slice_set rows k (row o c set))) + length r.set ≡ stored_values (cells_in rows) + length set
+pub values_set : (o c : ℕ) (set : List Value) (rows : List SetRow) (k : ℕ) (r : SetRow) → FirstAt (is_set o c) rows k r →
+    stored_values (cells_in (slice_set rows k (row o c set))) + length r.set ≡ stored_values (cells_in rows) + length set
 values_set o c set [] k r f = absurd f
 values_set o c set (q ∷ rows) zero r f =
     let s = size q.live (record { object = q.object; column = q.column; set = q.set }) (cells_in rows) in

@@ -23,7 +23,8 @@ use Rattle.sheet_state.specs.Rows.{state_of, moment, IsSound}
 use Rattle.sheet_state.proofs.Existing.{key}
 use Rattle.sheet_state.proofs.Schemas.{formulas_there}
 use Rattle.sheet_state.proofs.Newborn.{newborn}
-use Rattle.sheet_state.proofs.Bearing.{states_rise, extents_rise, grown_rising, grown_drawn, live_cells, live_extents, no_children, first_values, formulas_counted, empty_extent}
+use Rattle.sheet_state.proofs.Bearing.{states_rise, extents_rise, grown_rising, grown_drawn, live_cells, live_extents, no_children, first_values}
+use Rattle.sheet_state.proofs.Bearing.{formulas_counted, empty_extent}
 
 root_row : ObjectRow
 root_row = record { number = 0; column = 0; parent = None; live = true }
@@ -32,7 +33,7 @@ newborn_keys : (n : ℕ) (ks : List StateColumn) → map key (map (newborn n) ks
 newborn_keys n [] = refl
 newborn_keys n (k ∷ ks) = ap (λ l. (n, k.number) ∷ l) (newborn_keys n ks)
 
-empty_keys : (n : ℕ) (ks : List ℕ) → map key (map (empty_extent n) ks) ≡ map (λ (k : ℕ). (n, k)) ks
+pub empty_keys : (n : ℕ) (ks : List ℕ) → map key (map (empty_extent n) ks) ≡ map (λ (k : ℕ). (n, k)) ks
 empty_keys n [] = refl
 empty_keys n (k ∷ ks) = ap (λ l. (n, k) ∷ l) (empty_keys n ks)
 
@@ -44,7 +45,8 @@ module _ (nodes : List Node) (tree : IsTree nodes) (counters : Counters) where
   cols = object_columns nodes 0
 
   abbrev pub first : Table
-  first = with_rows (record { objects = record { number = 0; column = 0; parent = None; live = true } ∷ []; cells = []; extents = []; counters = counters }) 0 scs cols
+  first = with_rows (record { objects = record { number = 0; column = 0; parent = None; live = true } ∷ []; cells = []; extents = []; counters = counters }) 0
+      scs cols
 
   abbrev s : State
   s = start_state (schema_of nodes)
@@ -67,8 +69,10 @@ module _ (nodes : List Node) (tree : IsTree nodes) (counters : Counters) where
     cells = grown_rising (λ (k : StateColumn). k.number) (new_cell 0) 0 (λ k. refl) (λ k. refl) [] scs tt tt (states_rise nodes 0);
     extents = grown_rising (λ (k : ℕ). k) (new_extent 0) 0 (λ k. refl) (λ k. refl) [] cols tt tt (extents_rise nodes 0);
     objects_drawn = (omega (arith, next), tt);
-    cells_drawn = subst (λ n. AllByRecursion (λ (r : SetRow). r.object < n) (map (new_cell 0) scs)) (sym next) (grown_drawn (λ (k : StateColumn). k.number) (new_cell 0) 0 (λ k. refl) (λ k. refl) [] scs tt);
-    extents_drawn = subst (λ n. AllByRecursion (λ (r : SetRow). r.object < n) (map (new_extent 0) cols)) (sym next) (grown_drawn (λ (k : ℕ). k) (new_extent 0) 0 (λ k. refl) (λ k. refl) [] cols tt);
+    cells_drawn = subst (λ n. AllByRecursion (λ (r : SetRow). r.object < n) (map (new_cell 0) scs)) (sym next)
+        (grown_drawn (λ (k : StateColumn). k.number) (new_cell 0) 0 (λ k. refl) (λ k. refl) [] scs tt);
+    extents_drawn = subst (λ n. AllByRecursion (λ (r : SetRow). r.object < n) (map (new_extent 0) cols)) (sym next)
+        (grown_drawn (λ (k : ℕ). k) (new_extent 0) 0 (λ k. refl) (λ k. refl) [] cols tt);
     children = λ o k. ap (λ l. set_in l o k) (live_extents 0 cols) ∙ no_children 0 cols o k ∙ sym (no_child o k);
     counted_objects = objects;
     counted_values = values ∙ sym (first_values 0 scs) ∙ ap stored_values (sym (live_cells 0 scs));
@@ -82,13 +86,15 @@ module _ (nodes : List Node) (tree : IsTree nodes) (counters : Counters) where
       let counted = formulas_counted nodes 0 0 in
       omega (arith, states, as_many, formulas, counted)
 
-  pub moment_first : counters.next ≡ 1 → counters.cells ≡ length scs + length (formula_columns nodes 0) → counters.cells ≤ 1000 → length (firsts scs) ≤ 1000 → IsMoment nodes (moment first)
+  pub moment_first : counters.next ≡ 1 → counters.cells ≡ length scs + length (formula_columns nodes 0) → counters.cells ≤ 1000 → length (firsts scs) ≤ 1000 →
+      IsMoment nodes (moment first)
   moment_first next cells few_cells few_values =
       let counted = cells_first in
       let values = first_values 0 scs in
       let well : IsWellFormed (book nodes s) = starts_are_well_formed (schema_of nodes) tree (formulas_there nodes) in
       record {
         well_formed = subst (λ u. IsWellFormed (book nodes u)) (sym (state_first next)) well;
-        extents = ap (map key) (live_extents 0 cols) ∙ empty_keys 0 cols ∙ sym (append-nil (map (λ (k : ℕ). (0, k)) cols)) ∙ ap (λ (u : State). extents_of nodes u.objects) (sym (state_first next));
+        extents = ap (map key) (live_extents 0 cols) ∙ empty_keys 0 cols ∙ sym (append-nil (map (λ (k : ℕ). (0, k)) cols))
+            ∙ ap (λ (u : State). extents_of nodes u.objects) (sym (state_first next));
         cells = cells ∙ sym counted ∙ ap (λ u. cell_count (book nodes u)) (sym (state_first next));
       }

@@ -1,5 +1,6 @@
 -- Elements that change one after another, at places that rise, where all others stay as they are.
-use Rattle.std.proofs.Common.{◌≡◌, refl, sym, ap, ◌∙◌, ℕ, ◌+◌, ◌-◌, ◌<◌, ◌≤◌, zero, suc, Bool, true, false, List, [], ◌∷◌, ◌++◌, length, take, drop, get_or, arith, add-one, eq-eqb}
+use Rattle.std.proofs.Common.{◌≡◌, refl, sym, ap, ◌∙◌, ℕ, ◌+◌, ◌-◌, ◌<◌, ◌≤◌, zero, suc, Bool, true, false, List, [], ◌∷◌, ◌++◌, length, take, drop, get_or}
+use Rattle.std.proofs.Common.{arith, add-one, eq-eqb}
 use Rattle.std.specs.Prelude.{map, fold, slice_set, sum_by, nat_lt, if◌then◌else◌}
 use Rattle.std.specs.List.{All, AllByRecursion, flat_map}
 use Rattle.std.specs.Ordering.{is_eq, nat_cmp}
@@ -24,8 +25,7 @@ use Rattle.sheet_state.specs.Births.{with_items, formula_columns}
 use Rattle.sheet_state.specs.Deaths.{is_doomed, buried, buried_items, up_items, swept, swept_items, lost, lost_objects, lost_cells}
 use Rattle.sheet_state.specs.Kept.{schema_of}
 use Rattle.sheet_state.specs.Places.{Fits}
-use Rattle.sheet_state.proofs.Underneath.{right}
-use Rattle.sheet_state.proofs.Without.{nat_less}
+use Rattle.sheet_state_references.proofs.Searched.{right, nat_less}
 
 -- a number ties with no other
 apart_from : (a b : ℕ) → (a ≡ b → ⊥) → is_eq (nat_cmp a b) ≡ false
@@ -53,7 +53,8 @@ module _ {A S : Type 0} (f : A → A) (acc : S → A → S) (quiet : (s : S) (x 
   partly_next (x ∷ xs) (suc k) d lt = ap (λ l. f x ∷ l) (partly_next xs k d (omega arith))
 
   total_next : (s : S) (xs : List A) (k : ℕ) (d : A) → k < length xs → acc (fold acc s (take k xs)) (get_or xs k d) ≡ fold acc s (take (suc k) xs)
-  total_next s xs k d lt = sym (ap (fold acc s) (ap (λ n. take n xs) (sym (add-one k)) ∙ take_more xs k d lt) ∙ fold-append acc s (take k xs) (get_or xs k d ∷ []))
+  total_next s xs k d lt =
+      sym (ap (fold acc s) (ap (λ n. take n xs) (sym (add-one k)) ∙ take_more xs k d lt) ∙ fold-append acc s (take k xs) (get_or xs k d ∷ []))
 
   -- an element that stays as it is, is as if it had been changed
   skip_rows : (xs : List A) (k : ℕ) (d : A) → k < length xs → f (get_or xs k d) ≡ get_or xs k d → partly f xs k ≡ partly f xs (suc k)
@@ -69,7 +70,8 @@ module _ {A S : Type 0} (f : A → A) (acc : S → A → S) (quiet : (s : S) (x 
   abbrev pub StayBetween : List A → ℕ → ℕ → Type 0
   StayBetween xs q p = (k : ℕ) (d : A) → q ≤ k → k < p → f (get_or xs k d) ≡ get_or xs k d
 
-  skip_far : (s : S) (xs : List A) (d : A) (q n : ℕ) → q + n ≤ length xs → StayBetween xs q (q + n) → (partly f xs q ≡ partly f xs (q + n)) × (fold acc s (take q xs) ≡ fold acc s (take (q + n) xs))
+  skip_far : (s : S) (xs : List A) (d : A) (q n : ℕ) → q + n ≤ length xs → StayBetween xs q (q + n) →
+      (partly f xs q ≡ partly f xs (q + n)) × (fold acc s (take q xs) ≡ fold acc s (take (q + n) xs))
   skip_far s xs d q zero fits stay = let e : q ≡ q + 0 = omega arith in (ap (partly f xs) e, ap (λ k. fold acc s (take k xs)) e)
   skip_far s xs d q (suc n) fits stay =
       let rest = skip_far s xs d q n (omega arith) (λ k e lo hi. stay k e lo (omega arith)) in
@@ -80,7 +82,8 @@ module _ {A S : Type 0} (f : A → A) (acc : S → A → S) (quiet : (s : S) (x 
         rest.1 ∙ skip_total s xs (q + n) d lt same ∙ ap (λ k. fold acc s (take k xs)) e,
       )
 
-  skip : (s : S) (xs : List A) (d : A) (q p : ℕ) → q ≤ p → p ≤ length xs → StayBetween xs q p → (partly f xs q ≡ partly f xs p) × (fold acc s (take q xs) ≡ fold acc s (take p xs))
+  skip : (s : S) (xs : List A) (d : A) (q p : ℕ) → q ≤ p → p ≤ length xs → StayBetween xs q p →
+      (partly f xs q ≡ partly f xs p) × (fold acc s (take q xs) ≡ fold acc s (take p xs))
   skip s xs d q p le fits stay =
       let e : q + (p - q) ≡ p = omega arith in
       let far = skip_far s xs d q (p - q) (omega arith) (λ k c lo hi. stay k c lo (omega arith)) in
@@ -95,7 +98,8 @@ module _ {A S : Type 0} (f : A → A) (acc : S → A → S) (quiet : (s : S) (x 
     pub ahead : AllByRecursion (λ p. upto ≤ p) rest
     pub others : (k : ℕ) (d : A) → upto ≤ k → k < length xs → has k rest ≡ false → f (get_or xs k d) ≡ get_or xs k d
 
-  pub starts : (xs : List A) (s : S) (places : List ℕ) → ((k : ℕ) (d : A) → k < length xs → has k places ≡ false → f (get_or xs k d) ≡ get_or xs k d) → Visited xs xs s s places
+  pub starts : (xs : List A) (s : S) (places : List ℕ) → ((k : ℕ) (d : A) → k < length xs → has k places ≡ false → f (get_or xs k d) ≡ get_or xs k d) →
+      Visited xs xs s s places
   starts xs s places others = record {
     upto = 0;
     rows = refl;
@@ -114,7 +118,8 @@ module _ {A S : Type 0} (f : A → A) (acc : S → A → S) (quiet : (s : S) (x 
   not_among k (p ∷ ps) h = ap (λ b. b || has k ps) (let lt = h.0 in apart_from k p (λ e. omega arith)) ∙ not_among k ps h.1
 
   -- a turn at the first place
-  pub turn : (xs ys : List A) (s t : S) (p : ℕ) (rest : List ℕ) (d : A) → AllByRecursion (λ n. p < n) rest → p < length xs → Visited xs ys s t (p ∷ rest) → Visited xs (slice_set ys p (f (get_or ys p d))) s (acc t (get_or ys p d)) rest
+  pub turn : (xs ys : List A) (s t : S) (p : ℕ) (rest : List ℕ) (d : A) → AllByRecursion (λ n. p < n) rest → p < length xs → Visited xs ys s t (p ∷ rest) →
+      Visited xs (slice_set ys p (f (get_or ys p d))) s (acc t (get_or ys p d)) rest
   turn xs ys s t p rest d above lt v =
       let le = v.ahead.0 in
       let far = skip s xs d v.upto p le (omega arith) (λ k e lo hi. v.others k e lo (omega arith) (not_among k (p ∷ rest) (hi, lower k hi rest above))) in
@@ -141,7 +146,8 @@ module _ {A S : Type 0} (f : A → A) (acc : S → A → S) (quiet : (s : S) (x 
   pub ends : (xs ys : List A) (s t : S) (d : A) → Visited xs ys s t [] → (ys ≡ map f xs) × (t ≡ fold acc s xs)
   ends xs ys s t d v =
       let far = skip s xs d v.upto (length xs) v.fits (omega arith) (λ k e lo hi. v.others k e lo hi refl) in (
-        v.rows ∙ far.0 ∙ ap (λ l. map f l ++ drop (length xs) xs) (take_all (length xs) xs (omega arith)) ∙ ap (λ l. map f xs ++ l) (drop_all (length xs) xs (omega arith)) ∙ append-nil (map f xs),
+        v.rows ∙ far.0 ∙ ap (λ l. map f l ++ drop (length xs) xs) (take_all (length xs) xs (omega arith))
+            ∙ ap (λ l. map f xs ++ l) (drop_all (length xs) xs (omega arith)) ∙ append-nil (map f xs),
         v.total ∙ far.1 ∙ ap (fold acc s) (take_all (length xs) xs (omega arith)),
       )
 
@@ -168,14 +174,17 @@ told_nothing f g h s x none first second =
     ∙ ap (λ n. totals s.items s.first n) (let z : s.second - 0 ≡ s.second = omega arith in z)
 
 -- what is told of all rows
-pub all_told : {A : Type 0} (f : A → List Item) (g h : A → ℕ) (xs : List A) (items : List Item) (n m : ℕ) → fold (with_row f g h) (totals items n m) xs ≡ totals (with_items items (flat_map f xs)) (n - sum_by g xs) (m - sum_by h xs)
+pub all_told : {A : Type 0} (f : A → List Item) (g h : A → ℕ) (xs : List A) (items : List Item) (n m : ℕ) →
+    fold (with_row f g h) (totals items n m) xs ≡ totals (with_items items (flat_map f xs)) (n - sum_by g xs) (m - sum_by h xs)
 all_told f g h [] items n m =
     ap (λ k. totals items k m) (let z : n ≡ n - 0 = omega arith in z) ∙ ap (λ k. totals items (n - 0) k) (let z : m ≡ m - 0 = omega arith in z)
 all_told f g h (x ∷ xs) items n m =
     all_told f g h xs (with_items items (f x)) (n - g x) (m - h x)
     ∙ ap (λ l. totals l ((n - g x) - sum_by g xs) ((m - h x) - sum_by h xs)) (sym (fold-append _ items (f x) (flat_map f xs)))
-    ∙ ap (λ k. totals (with_items items (f x ++ flat_map f xs)) k ((m - h x) - sum_by h xs)) (let one = sum_by-cons g x xs in let z : (n - g x) - sum_by g xs ≡ n - sum_by g (x ∷ xs) = omega arith in z)
-    ∙ ap (λ k. totals (with_items items (f x ++ flat_map f xs)) (n - sum_by g (x ∷ xs)) k) (let one = sum_by-cons h x xs in let z : (m - h x) - sum_by h xs ≡ m - sum_by h (x ∷ xs) = omega arith in z)
+    ∙ ap (λ k. totals (with_items items (f x ++ flat_map f xs)) k ((m - h x) - sum_by h xs)) (let one = sum_by-cons g x xs in
+    let z : (n - g x) - sum_by g xs ≡ n - sum_by g (x ∷ xs) = omega arith in z)
+    ∙ ap (λ k. totals (with_items items (f x ++ flat_map f xs)) (n - sum_by g (x ∷ xs)) k) (let one = sum_by-cons h x xs in
+    let z : (m - h x) - sum_by h xs ≡ m - sum_by h (x ∷ xs) = omega arith in z)
 
 -- none waits where none comes
 pub none_waits : (ks : List ℕ) → (0 < length ks → ⊥) → ks ≡ []
@@ -210,7 +219,8 @@ alive d r e = at (is_doomed d r) refl
         let live = (both_true r.live (contains (Object r.number) d) h).0 in
         cc
 
-pub quiet_object : (nodes : List Node) (d : List Value) (s : Totals) (r : ObjectRow) → buried d r ≡ r → with_row (buried_items d) (lost_objects d) (lost_cells nodes d) s r ≡ s
+pub quiet_object : (nodes : List Node) (d : List Value) (s : Totals) (r : ObjectRow) → buried d r ≡ r →
+    with_row (buried_items d) (lost_objects d) (lost_cells nodes d) s r ≡ s
 quiet_object nodes d s r e =
     let a = alive d r e in
     told_nothing (buried_items d) (lost_objects d) (lost_cells nodes d) s r

@@ -1,5 +1,6 @@
 -- The items that a deletion changes.
-use Rattle.std.proofs.Common.{◌≡◌, refl, sym, ap, ◌∙◌, subst, ℕ, ◌-◌, ◌<◌, ◌≤◌, suc, Bool, true, false, cond, List, [], ◌∷◌, ◌++◌, length, arith, Option, Some, None, eq-eqb, inl, inr}
+use Rattle.std.proofs.Common.{◌≡◌, refl, sym, ap, ◌∙◌, subst, ℕ, ◌-◌, ◌<◌, ◌≤◌, suc, Bool, true, false, cond, List, [], ◌∷◌, ◌++◌, length, arith, Option, Some}
+use Rattle.std.proofs.Common.{None, eq-eqb, inl, inr}
 use Rattle.std.specs.Prelude.{not, nat_lt, ◌==◌, ◌&&◌, ◌||◌, if◌then◌else◌, map, filter, is_some}
 use Rattle.std.specs.List.{flat_map, cons_option, list_any}
 use Rattle.std.specs.Ordering.{is_eq}
@@ -30,17 +31,15 @@ use Rattle.sheet_state.specs.Kept.{IsMoment, AreChanged}
 use Rattle.sheet_state.specs.Rows.{live_object, live_cell, object_cmp, object_of, objects_in, cells_in, state_of, moment, row_cmp, is_set, IsSound}
 use Rattle.sheet_state.proofs.Family.{Knows, knows_number}
 use Rattle.sheet_state.proofs.Lookups.{set_first, set_skip}
-use Rattle.sheet_state.proofs.Newborn.{has_items}
+use Rattle.sheet_state.proofs.Newborn.{not_item, has_items}
 use Rattle.sheet_state.proofs.SetRows.{at, apart, passes, key_is}
 use Rattle.sheet_state.proofs.Rid.{state_rid, children_rid}
-use Rattle.sheet_state.proofs.Without.{found_left, differs, nat_less, filter_short}
+use Rattle.sheet_state.proofs.Without.{found_left, differs, filter_short}
 use Rattle.sheet_state.proofs.WithSet.{item_is, item_itself, numbers_same, sets_are, sets_same}
+use Rattle.sheet_state_references.proofs.Searched.{nat_less}
 
 abbrev among : Item → List Item → Bool
 among x ys = list_any (λ y. is_eq (item_cmp x y)) ys
-
-not_item : (i j : Item) → (i ≡ j → ⊥) → is_eq (item_cmp i j) ≡ false
-not_item i j ne = elim (is_eq (item_cmp i j)) as (λ b. is_eq (item_cmp i j) ≡ b → b ≡ false) [ true ↦ λ e. absurd (ne (item_is i j e)) | false ↦ λ e. refl ] refl
 
 among_append : (i : Item) (xs ys : List Item) → among i (xs ++ ys) ≡ (among i xs || among i ys)
 among_append i xs ys = list_any-append (λ y. is_eq (item_cmp i y)) xs ys
@@ -88,7 +87,8 @@ module _ (d : List Value) (ns : List ℕ) (k : Knows d ns) (m : ℕ) where
   live_row r = ap (λ b. among (Live m) (if b then Live r.number ∷ up_items r.number r.parent else [])) (is_test r) ∙ of_test (live_test r)
     where
       of_test : (b : Bool) → among (Live m) (if b then Live r.number ∷ up_items r.number r.parent else []) ≡ (b && r.number == m)
-      of_test true = ap (λ b. is_eq (item_cmp (Live m) (Live r.number)) || b) (no_up r.number r.parent) ∙ or_false (is_eq (item_cmp (Live m) (Live r.number))) ∙ number_item r.number
+      of_test true = ap (λ b. is_eq (item_cmp (Live m) (Live r.number)) || b) (no_up r.number r.parent) ∙ or_false (is_eq (item_cmp (Live m) (Live r.number)))
+          ∙ number_item r.number
       of_test false = refl
 
   up_row : (r : ObjectRow) → among (Up m) (buried_items d r) ≡ (live_test r && (r.number == m && is_some r.parent))
@@ -129,7 +129,10 @@ module _ (d : List Value) (ns : List ℕ) (k : Knows d ns) (m : ℕ) where
       ]
 
   -- one row more
-  joined : (g : LiveObject → Bool) (r : ObjectRow) (rows : List ObjectRow) → IsBelow object_cmp r rows → (l e h : Bool) → r.live ≡ l → (r.number == m) ≡ e → has_number ns m ≡ h → ((live_test r && (r.number == m && g (object_of r))) || (has_number ns m && of_found g (object_at (objects_in rows) m))) ≡ (has_number ns m && of_found g (object_at (cons_option (live_object r) (objects_in rows)) m))
+  joined : (g : LiveObject → Bool) (r : ObjectRow) (rows : List ObjectRow) → IsBelow object_cmp r rows → (l e h : Bool) → r.live ≡ l → (r.number == m) ≡ e →
+      has_number ns m ≡ h →
+      ((live_test r && (r.number == m && g (object_of r))) || (has_number ns m && of_found g (object_at (objects_in rows) m))) ≡ (has_number ns m && of_found g
+      (object_at (cons_option (live_object r) (objects_in rows)) m))
   joined g r rows below true true h live same is =
       let number = eqb-true r.number m same in
       let test : live_test r ≡ h = ap (λ b. b && has_number ns r.number) live ∙ ap (has_number ns) number ∙ is in
@@ -139,17 +142,21 @@ module _ (d : List Value) (ns : List ℕ) (k : Knows d ns) (m : ℕ) where
       ∙ ap (λ b. (h && g (object_of r)) || b) (and_false (has_number ns m))
       ∙ or_false (h && g (object_of r))
       ∙ ap (λ b. b && g (object_of r)) (sym is)
-      ∙ sym (ap (λ b. has_number ns m && of_found g (object_at (cons_option (if b then Some (object_of r) else None) (objects_in rows)) m)) live ∙ ap (λ b. has_number ns m && of_found g (if b then Some (object_of r) else object_at (objects_in rows) m)) same)
+      ∙ sym (ap (λ b. has_number ns m && of_found g (object_at (cons_option (if b then Some (object_of r) else None) (objects_in rows)) m)) live
+      ∙ ap (λ b. has_number ns m && of_found g (if b then Some (object_of r) else object_at (objects_in rows) m)) same)
   joined g r rows below true false h live same is =
       ap (λ b. (live_test r && (b && g (object_of r))) || (has_number ns m && of_found g (object_at (objects_in rows) m))) same
       ∙ ap (λ b. b || (has_number ns m && of_found g (object_at (objects_in rows) m))) (and_false (live_test r))
-      ∙ sym (ap (λ b. has_number ns m && of_found g (object_at (cons_option (if b then Some (object_of r) else None) (objects_in rows)) m)) live ∙ ap (λ b. has_number ns m && of_found g (if b then Some (object_of r) else object_at (objects_in rows) m)) same)
+      ∙ sym (ap (λ b. has_number ns m && of_found g (object_at (cons_option (if b then Some (object_of r) else None) (objects_in rows)) m)) live
+      ∙ ap (λ b. has_number ns m && of_found g (if b then Some (object_of r) else object_at (objects_in rows) m)) same)
   joined g r rows below false e h live same is =
       ap (λ b. ((b && has_number ns r.number) && (r.number == m && g (object_of r))) || (has_number ns m && of_found g (object_at (objects_in rows) m))) live
       ∙ sym (ap (λ b. has_number ns m && of_found g (object_at (cons_option (if b then Some (object_of r) else None) (objects_in rows)) m)) live)
 
   -- an object's item is told where the object is live and goes
-  pub told : (i : Item) (g : LiveObject → Bool) → ((r : ObjectRow) → among i (buried_items d r) ≡ (live_test r && (r.number == m && g (object_of r)))) → (rows : List ObjectRow) → IsRising object_cmp rows → among i (flat_map (buried_items d) rows) ≡ (has_number ns m && of_found g (object_at (objects_in rows) m))
+  pub told : (i : Item) (g : LiveObject → Bool) → ((r : ObjectRow) → among i (buried_items d r) ≡ (live_test r && (r.number == m && g (object_of r)))) →
+      (rows : List ObjectRow) → IsRising object_cmp rows →
+      among i (flat_map (buried_items d) rows) ≡ (has_number ns m && of_found g (object_at (objects_in rows) m))
   told i g row [] rising = sym (and_false (has_number ns m))
   told i g row (r ∷ rows) rising =
       among_append i (buried_items d r) (flat_map (buried_items d) rows)
@@ -157,8 +164,11 @@ module _ (d : List Value) (ns : List ℕ) (k : Knows d ns) (m : ℕ) where
       ∙ ap (λ b. (live_test r && (r.number == m && g (object_of r))) || b) (told i g row rows rising.1)
       ∙ joined g r rows rising.0 r.live (r.number == m) (has_number ns m) refl refl refl
 
-  live_told : (rows : List ObjectRow) → IsRising object_cmp rows → among (Live m) (flat_map (buried_items d) rows) ≡ not (numbers_equal (column_in (object_at (objects_in rows) m)) (column_in (if has_number ns m then None else object_at (objects_in rows) m)))
-  live_told rows rising = told (Live m) (λ x. true) (λ r. live_row r ∙ ap (λ b. live_test r && b) (sym (and_true (r.number == m)))) rows rising ∙ at (has_number ns m) (object_at (objects_in rows) m)
+  live_told : (rows : List ObjectRow) → IsRising object_cmp rows →
+      among (Live m) (flat_map (buried_items d) rows) ≡ not
+      (numbers_equal (column_in (object_at (objects_in rows) m)) (column_in (if has_number ns m then None else object_at (objects_in rows) m)))
+  live_told rows rising = told (Live m) (λ x. true) (λ r. live_row r ∙ ap (λ b. live_test r && b) (sym (and_true (r.number == m)))) rows rising
+      ∙ at (has_number ns m) (object_at (objects_in rows) m)
     where
       and_true : (b : Bool) → (b && true) ≡ b
       and_true true = refl
@@ -169,14 +179,17 @@ module _ (d : List Value) (ns : List ℕ) (k : Knows d ns) (m : ℕ) where
       at true (Some x) = refl
       at false q = sym (ap not (numbers_same (column_in q)))
 
-  up_told : (rows : List ObjectRow) → IsRising object_cmp rows → among (Up m) (flat_map (buried_items d) rows) ≡ not (numbers_equal (parent_in (object_at (objects_in rows) m)) (parent_in (if has_number ns m then None else object_at (objects_in rows) m)))
+  up_told : (rows : List ObjectRow) → IsRising object_cmp rows →
+      among (Up m) (flat_map (buried_items d) rows) ≡ not
+      (numbers_equal (parent_in (object_at (objects_in rows) m)) (parent_in (if has_number ns m then None else object_at (objects_in rows) m)))
   up_told rows rising = told (Up m) (λ x. is_some x.parent) up_row rows rising ∙ at (has_number ns m) (object_at (objects_in rows) m)
     where
       of_parent : (p : Option ℕ) → is_some p ≡ not (numbers_equal p None)
       of_parent None = refl
       of_parent (Some n) = refl
 
-      at : (h : Bool) (q : Option LiveObject) → (h && of_found (λ x. is_some x.parent) q) ≡ not (numbers_equal (parent_in q) (parent_in (if h then None else q)))
+      at : (h : Bool) (q : Option LiveObject) →
+          (h && of_found (λ x. is_some x.parent) q) ≡ not (numbers_equal (parent_in q) (parent_in (if h then None else q)))
       at true None = refl
       at true (Some x) = of_parent x.parent
       at false q = sym (ap not (numbers_same (parent_in q)))
@@ -188,7 +201,8 @@ lost_tells xs ys short same =
       | true ↦ λ e. let equal = ap length (sets_are xs ys e) in le-ltb 0 (length xs - length ys) (omega arith)
       | false ↦ λ e. lt-ltb 0 (length xs - length ys) (elim (cases_lt (length ys) (length xs)) [
         | inl lt ↦ omega arith
-        | inr ge ↦ let equal : length xs ≡ length ys = omega arith in let t : sets_equal xs ys ≡ true = subst (λ l. sets_equal xs l ≡ true) (sym (same equal)) (sets_same xs) in absurd (let clash : true ≡ false = sym t ∙ e in cc)
+        | inr ge ↦ let equal : length xs ≡ length ys = omega arith in let t : sets_equal xs ys ≡ true =
+            subst (λ l. sets_equal xs l ≡ true) (sym (same equal)) (sets_same xs) in absurd (let clash : true ≡ false = sym t ∙ e in cc)
       ])
     ] refl
 
@@ -200,7 +214,9 @@ same_filter p (x ∷ xs) e =
       | false ↦ λ h. let short = filter_short p xs in absurd (omega arith)
     ] e
 
-lost_by : (d : List Value) (r : SetRow) (b c : Bool) → nat_lt 0 (length r.set - length (if b then (if c then record r { live = false; set = [] } else record r { set = minus r.set d }) else r).set) ≡ not (sets_equal r.set (if b then (if c then record r { live = false; set = [] } else record r { set = minus r.set d }) else r).set)
+lost_by : (d : List Value) (r : SetRow) (b c : Bool) →
+    nat_lt 0 (length r.set - length (if b then (if c then record r { live = false; set = [] } else record r { set = minus r.set d }) else r).set) ≡ not
+    (sets_equal r.set (if b then (if c then record r { live = false; set = [] } else record r { set = minus r.set d }) else r).set)
 lost_by d r true true = lost_tells r.set [] (omega arith) (λ e. sym (nil_from_length r.set e))
 lost_by d r true false = lost_tells r.set (minus r.set d) (filter_short (λ v. not (contains v d)) r.set) (λ e. same_filter (λ v. not (contains v d)) r.set e)
 lost_by d r false c = lost_tells r.set r.set (omega arith) (λ e. refl)
@@ -210,7 +226,8 @@ lost_is d r = lost_by d r r.live (contains (Object r.object) d)
 
 -- sets that lose what goes
 module _ (item : ℕ → ℕ → Item) (inside : (a b x y : ℕ) → item a b ≡ item x y → (a ≡ x) × (b ≡ y)) (d : List Value) (m c : ℕ) where
-  row_missed : (r : SetRow) → is_set m c r ≡ false → (a b : Bool) → is_set m c (if a then (if b then record r { live = false; set = [] } else record r { set = minus r.set d }) else r) ≡ false
+  row_missed : (r : SetRow) → is_set m c r ≡ false → (a b : Bool) →
+      is_set m c (if a then (if b then record r { live = false; set = [] } else record r { set = minus r.set d }) else r) ≡ false
   row_missed r e true true = refl
   row_missed r e true false = e
   row_missed r e false b = e
@@ -248,25 +265,33 @@ module _ (item : ℕ → ℕ → Item) (inside : (a b x y : ℕ) → item a b �
         none_swept = set_skip m c (swept d q) (cells_in (map (swept d) rows)) (swept_missed q miss) ∙ rest.none_swept;
         not_told =
             among_append (item m c) (swept_items item d q) (flat_map (swept_items item d) rows)
-            ∙ ap (λ b. b || among (item m c) (flat_map (swept_items item d) rows)) (one_item (item m c) (item q.object q.column) (nat_lt 0 (lost d q)) (other_item q far))
+            ∙ ap (λ b. b || among (item m c) (flat_map (swept_items item d) rows))
+            (one_item (item m c) (item q.object q.column) (nat_lt 0 (lost d q)) (other_item q far))
             ∙ rest.not_told;
       }
 
-  found_swept : (r : SetRow) (rest : List StoredCell) → is_set m c r ≡ true → set_in rest m c ≡ [] → (b : Bool) → set_in (cons_option (live_cell (if b then record r { live = false; set = [] } else record r { set = minus r.set d })) rest) m c ≡ (if b then record r { live = false; set = [] } else record r { set = minus r.set d }).set
+  found_swept : (r : SetRow) (rest : List StoredCell) → is_set m c r ≡ true → set_in rest m c ≡ [] → (b : Bool) →
+      set_in (cons_option (live_cell (if b then record r { live = false; set = [] } else record r { set = minus r.set d })) rest) m
+      c ≡ (if b then record r { live = false; set = [] } else record r { set = minus r.set d }).set
   found_swept r rest e none true = none
   found_swept r rest e none false = set_first m c (record r { set = minus r.set d }) rest e
 
-  pub sets_told : (rows : List SetRow) → IsRising row_cmp rows → among (item m c) (flat_map (swept_items item d) rows) ≡ not (sets_equal (set_in (cells_in rows) m c) (set_in (cells_in (map (swept d) rows)) m c))
+  pub sets_told : (rows : List SetRow) → IsRising row_cmp rows →
+      among (item m c) (flat_map (swept_items item d) rows) ≡ not (sets_equal (set_in (cells_in rows) m c) (set_in (cells_in (map (swept d) rows)) m c))
   sets_told [] rising = refl
   sets_told (r ∷ rows) rising =
       among_append (item m c) (swept_items item d r) (flat_map (swept_items item d) rows)
-      ∙ elim (is_set m c r) as (λ b. is_set m c r ≡ b → (among (item m c) (swept_items item d r) || among (item m c) (flat_map (swept_items item d) rows)) ≡ not (sets_equal (set_in (cells_in (r ∷ rows)) m c) (set_in (cells_in (map (swept d) (r ∷ rows))) m c))) [
+      ∙ elim (is_set m c r) as (λ b. is_set m c r ≡ b →
+      (among (item m c) (swept_items item d r) || among (item m c) (flat_map (swept_items item d) rows)) ≡ not
+      (sets_equal (set_in (cells_in (r ∷ rows)) m c) (set_in (cells_in (map (swept d) (r ∷ rows))) m c))) [
         | true ↦ λ e.
             let p = passes m c r e in
             let rest = no_more r rows p.1 rising.0 in
             let keyed = key_is m c r p.1 in
             let same : item r.object r.column ≡ item m c = ap (λ n. item n r.column) keyed.0 ∙ ap (item m) keyed.1 in
-            let is : swept d r ≡ (if contains (Object r.object) d then record r { live = false; set = [] } else record r { set = minus r.set d }) = ap (λ b. if b then (if contains (Object r.object) d then record r { live = false; set = [] } else record r { set = minus r.set d }) else r) p.0 in
+            let is : swept d r ≡ (if contains (Object r.object) d then record r { live = false; set = [] } else record r { set = minus r.set d }) =
+            ap (λ b. if b then (if contains (Object r.object) d then record r { live = false; set = [] } else record r { set = minus r.set d }) else r)
+            p.0 in
             ap (λ b. among (item m c) (swept_items item d r) || b) rest.not_told
             ∙ or_false (among (item m c) (swept_items item d r))
             ∙ ap (λ j. among (item m c) (if nat_lt 0 (lost d r) then j ∷ [] else [])) same
@@ -281,7 +306,8 @@ module _ (item : ℕ → ℕ → Item) (inside : (a b x y : ℕ) → item a b �
             ap (λ b. b || among (item m c) (flat_map (swept_items item d) rows)) (silent r e r.live refl)
             ∙ sets_told rows rising.1
             ∙ ap (λ l. not (sets_equal l (set_in (cells_in (map (swept d) rows)) m c))) (sym (set_skip m c r (cells_in rows) e))
-            ∙ ap (λ l. not (sets_equal (set_in (cells_in (r ∷ rows)) m c) l)) (sym (set_skip m c (swept d r) (cells_in (map (swept d) rows)) (swept_missed r e)))
+            ∙ ap (λ l. not (sets_equal (set_in (cells_in (r ∷ rows)) m c) l))
+            (sym (set_skip m c (swept d r) (cells_in (map (swept d) rows)) (swept_missed r e)))
       ] refl
     where
       itself : (b : Bool) → among (item m c) (if b then item m c ∷ [] else []) ≡ b
@@ -291,7 +317,9 @@ module _ (item : ℕ → ℕ → Item) (inside : (a b x y : ℕ) → item a b �
       silent : (q : SetRow) → is_set m c q ≡ false → (l : Bool) → q.live ≡ l → among (item m c) (swept_items item d q) ≡ false
       silent q e true live = one_item (item m c) (item q.object q.column) (nat_lt 0 (lost d q)) (other_item q (ap (λ b. b && at m c q) (sym live) ∙ e))
       silent q e false live =
-          let is : swept d q ≡ q = ap (λ b. if b then (if contains (Object q.object) d then record q { live = false; set = [] } else record q { set = minus q.set d }) else q) live in
+          let is : swept d q ≡ q =
+          ap (λ b. if b then (if contains (Object q.object) d then record q { live = false; set = [] } else record q { set = minus q.set d }) else q)
+          live in
           let none : nat_lt 0 (lost d q) ≡ false = lost_is d q ∙ ap (λ (p : SetRow). not (sets_equal q.set p.set)) is ∙ ap not (sets_same q.set) in
           ap (λ b. among (item m c) (if b then item q.object q.column ∷ [] else [])) none
 
@@ -301,16 +329,21 @@ extents_apart a b x y h = let one : a ≡ x = cc in let two : b ≡ y = cc in (o
 cells_apart : (a b x y : ℕ) → Stored a b ≡ Stored x y → (a ≡ x) × (b ≡ y)
 cells_apart a b x y h = let one : a ≡ x = cc in let two : b ≡ y = cc in (one, two)
 
-module _ (nodes : List Node) (t : Table) (sound : IsSound t) (w : IsMoment nodes (moment t)) (o : ℕ) (positive : 0 < o) (d : List Value) (k : Knows d (family (objects_in t.objects) o)) where
+module _ (nodes : List Node) (t : Table) (sound : IsSound t) (w : IsMoment nodes (moment t)) (o : ℕ) (positive : 0 < o) (d : List Value)
+    (k : Knows d (family (objects_in t.objects) o)) where
   abbrev ns : List ℕ
   ns = family (objects_in t.objects) o
 
   abbrev s' : State
   s' = without_object (state_of t) o
 
-  has : (i : Item) → holds item_cmp i (rid_items d t) ≡ (among i (flat_map (swept_items Extent d) t.extents) || (among i (flat_map (swept_items Stored d) t.cells) || (among i (flat_map (buried_items d) t.objects) || false)))
+  has : (i : Item) →
+      holds item_cmp i
+      (rid_items d t) ≡ (among i (flat_map (swept_items Extent d) t.extents) ||
+      (among i (flat_map (swept_items Stored d) t.cells) || (among i (flat_map (buried_items d) t.objects) || false)))
   has i =
-      has_items i (with_items (with_items [] (flat_map (buried_items d) t.objects)) (flat_map (swept_items Stored d) t.cells)) (flat_map (swept_items Extent d) t.extents)
+      has_items i (with_items (with_items [] (flat_map (buried_items d) t.objects)) (flat_map (swept_items Stored d) t.cells))
+      (flat_map (swept_items Extent d) t.extents)
       ∙ ap (λ b. among i (flat_map (swept_items Extent d) t.extents) || b)
       (has_items i (with_items [] (flat_map (buried_items d) t.objects)) (flat_map (swept_items Stored d) t.cells)
       ∙ ap (λ b. among i (flat_map (swept_items Stored d) t.cells) || b) (has_items i [] (flat_map (buried_items d) t.objects)))
@@ -335,29 +368,34 @@ module _ (nodes : List Node) (t : Table) (sound : IsSound t) (w : IsMoment nodes
   pub rid_changed : AreChanged (state_of t) s' (rid_items d t)
   rid_changed (Live m) =
       has (Live m)
-      ∙ ap (λ b. told_by b (among (Live m) (flat_map (swept_items Stored d) t.cells)) (among (Live m) (flat_map (buried_items d) t.objects))) (no_sets (Live m) Extent (λ a b h. cc) t.extents)
+      ∙ ap (λ b. told_by b (among (Live m) (flat_map (swept_items Stored d) t.cells)) (among (Live m) (flat_map (buried_items d) t.objects)))
+      (no_sets (Live m) Extent (λ a b h. cc) t.extents)
       ∙ ap (λ b. told_by false b (among (Live m) (flat_map (buried_items d) t.objects))) (no_sets (Live m) Stored (λ a b h. cc) t.cells)
       ∙ or_false (among (Live m) (flat_map (buried_items d) t.objects))
       ∙ live_told d ns k m t.objects sound.objects
       ∙ ap (λ q. not (numbers_equal (column_in (object_at (objects_in t.objects) m)) (column_in q))) (sym (found_left ns (objects_in t.objects) m))
   rid_changed (Up m) =
       has (Up m)
-      ∙ ap (λ b. told_by b (among (Up m) (flat_map (swept_items Stored d) t.cells)) (among (Up m) (flat_map (buried_items d) t.objects))) (no_sets (Up m) Extent (λ a b h. cc) t.extents)
+      ∙ ap (λ b. told_by b (among (Up m) (flat_map (swept_items Stored d) t.cells)) (among (Up m) (flat_map (buried_items d) t.objects)))
+      (no_sets (Up m) Extent (λ a b h. cc) t.extents)
       ∙ ap (λ b. told_by false b (among (Up m) (flat_map (buried_items d) t.objects))) (no_sets (Up m) Stored (λ a b h. cc) t.cells)
       ∙ or_false (among (Up m) (flat_map (buried_items d) t.objects))
       ∙ up_told d ns k m t.objects sound.objects
       ∙ ap (λ q. not (numbers_equal (parent_in (object_at (objects_in t.objects) m)) (parent_in q))) (sym (found_left ns (objects_in t.objects) m))
   rid_changed (Extent m c) =
       has (Extent m c)
-      ∙ ap (λ b. told_by (among (Extent m c) (flat_map (swept_items Extent d) t.extents)) b (among (Extent m c) (flat_map (buried_items d) t.objects))) (no_sets (Extent m c) Stored (λ a b h. cc) t.cells)
+      ∙ ap (λ b. told_by (among (Extent m c) (flat_map (swept_items Extent d) t.extents)) b (among (Extent m c) (flat_map (buried_items d) t.objects)))
+      (no_sets (Extent m c) Stored (λ a b h. cc) t.cells)
       ∙ ap (λ b. told_by (among (Extent m c) (flat_map (swept_items Extent d) t.extents)) false b) (no_objects (Extent m c) (λ n h. cc) (λ n h. cc))
       ∙ or_false (among (Extent m c) (flat_map (swept_items Extent d) t.extents))
       ∙ sets_told Extent extents_apart d m c t.extents sound.extents
       ∙ ap (λ l. not (sets_equal l (set_in (cells_in (map (swept d) t.extents)) m c))) (sound.children m c)
-      ∙ ap (λ l. not (sets_equal (children_in (objects_in t.objects) m c) l)) (children_rid nodes t sound w o positive d k m c ∙ ap (λ (u : State). children_in u.objects m c) (state_rid nodes t sound w o positive d k))
+      ∙ ap (λ l. not (sets_equal (children_in (objects_in t.objects) m c) l)) (children_rid nodes t sound w o positive d k m c
+      ∙ ap (λ (u : State). children_in u.objects m c) (state_rid nodes t sound w o positive d k))
   rid_changed (Stored m c) =
       has (Stored m c)
-      ∙ ap (λ b. told_by b (among (Stored m c) (flat_map (swept_items Stored d) t.cells)) (among (Stored m c) (flat_map (buried_items d) t.objects))) (no_sets (Stored m c) Extent (λ a b h. cc) t.extents)
+      ∙ ap (λ b. told_by b (among (Stored m c) (flat_map (swept_items Stored d) t.cells)) (among (Stored m c) (flat_map (buried_items d) t.objects)))
+      (no_sets (Stored m c) Extent (λ a b h. cc) t.extents)
       ∙ ap (λ b. told_by false (among (Stored m c) (flat_map (swept_items Stored d) t.cells)) b) (no_objects (Stored m c) (λ n h. cc) (λ n h. cc))
       ∙ ap (λ b. false || b) (or_false (among (Stored m c) (flat_map (swept_items Stored d) t.cells)))
       ∙ sets_told Stored cells_apart d m c t.cells sound.cells

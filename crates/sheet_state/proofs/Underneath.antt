@@ -1,5 +1,6 @@
 -- What stands under an object, by the rows of the extents and by the objects themselves.
-use Rattle.std.proofs.Common.{◌≡◌, refl, sym, ap, ◌∙◌, subst, ℕ, ◌<◌, ◌≤◌, zero, suc, Bool, true, false, cond, List, [], ◌∷◌, length, get_or, arith, Option, Some, None, eq-eqb, ◌⊎◌, inl, inr}
+use Rattle.std.proofs.Common.{◌≡◌, refl, sym, ap, ◌∙◌, subst, ℕ, ◌<◌, ◌≤◌, zero, suc, Bool, true, false, cond, List, [], ◌∷◌, length, get_or, arith, Option}
+use Rattle.std.proofs.Common.{Some, None, eq-eqb, ◌⊎◌, inl, inr}
 use Rattle.std.specs.Prelude.{position, map, filter, fold, ◌==◌, ◌&&◌, ◌||◌, if◌then◌else◌}
 use Rattle.std.specs.List.{list_any, AllByRecursion}
 use Rattle.std.specs.declared.cmp.Ordering.{Ordering}
@@ -25,18 +26,11 @@ use Rattle.sheet_state_references.proofs.Numbers.{ties}
 use Rattle.sheet_state.specs.Rows.{is_object, is_set, objects_in, cells_in, object_cmp, row_cmp, IsSound}
 use Rattle.sheet_state.proofs.Lookups.{first_at, first_read, set_found, set_first, set_skip}
 use Rattle.sheet_state.proofs.Searching.{found, objects_follow, rows_follow, object_tests, set_tests}
-use Rattle.sheet_state.proofs.Without.{step, step_other, nat_less}
+use Rattle.sheet_state.proofs.Without.{step, step_other}
+use Rattle.sheet_state_references.proofs.Searched.{nat_less, right, one_of}
 
 abbrev none : SetRow
 none = record { object = 0; column = 0; live = false; set = [] }
-
-pub one_of : (a b : Bool) → (a || b) ≡ true → (a ≡ true) ⊎ (b ≡ true)
-one_of true b e = inl refl
-one_of false b e = inr e
-
-pub right : (a b : Bool) → b ≡ true → (a || b) ≡ true
-right true b e = refl
-right false b e = e
 
 pub all_in : {A : Type 0} (P : A → Type 0) (xs : List A) (x : A) → AllByRecursion P xs → IsIn x xs → P x
 all_in P [] x h i = absurd i
@@ -52,7 +46,8 @@ below_at cmp x [] k d b lt = absurd (omega arith)
 below_at cmp x (y ∷ ys) zero d b lt = b.0
 below_at cmp x (y ∷ ys) (suc k) d b lt = below_at cmp x ys k d b.1 (omega arith)
 
-rising_at : {A : Type 0} (cmp : A → A → Ordering) (xs : List A) (i j : ℕ) (d : A) → IsRising cmp xs → i < j → j < length xs → cmp (get_or xs i d) (get_or xs j d) ≡ Less
+rising_at : {A : Type 0} (cmp : A → A → Ordering) (xs : List A) (i j : ℕ) (d : A) → IsRising cmp xs → i < j → j < length xs →
+    cmp (get_or xs i d) (get_or xs j d) ≡ Less
 rising_at cmp [] i j d r lt h = absurd (omega arith)
 rising_at cmp (x ∷ xs) i zero d r lt h = absurd (omega arith)
 rising_at cmp (x ∷ xs) zero (suc j) d r lt h = below_at cmp x xs j d r.0 (omega arith)
@@ -79,21 +74,26 @@ equal : (n : ℕ) → nat_cmp n n ≡ Equal
 equal n = sym (nat_cmp_is n n Equal refl)
 
 -- the row of what is there is found where it stands
-pub object_placed : (rows : List ObjectRow) (k : ℕ) (d : ObjectRow) → IsRising object_cmp rows → k < length rows → (get_or rows k d).live ≡ true → position (is_object (get_or rows k d).number) rows ≡ Some k
+pub object_placed : (rows : List ObjectRow) (k : ℕ) (d : ObjectRow) → IsRising object_cmp rows → k < length rows → (get_or rows k d).live ≡ true →
+    position (is_object (get_or rows k d).number) rows ≡ Some k
 object_placed rows k d r lt live =
     let n = (get_or rows k d).number in
-    sym (object_tests n rows) ∙ found object_cmp (λ (q : ObjectRow). nat_cmp q.number n) (λ (q : ObjectRow). q.live) (objects_follow n) rows k d r lt (equal n) ∙ ap (λ b. if b then Some k else None) live
+    sym (object_tests n rows) ∙ found object_cmp (λ (q : ObjectRow). nat_cmp q.number n) (λ (q : ObjectRow). q.live) (objects_follow n) rows k d r lt (equal n)
+    ∙ ap (λ b. if b then Some k else None) live
 
-pub set_placed : (rows : List SetRow) (k : ℕ) → IsRising row_cmp rows → k < length rows → (set_row rows k).live ≡ true → position (is_set (set_row rows k).object (set_row rows k).column) rows ≡ Some k
+pub set_placed : (rows : List SetRow) (k : ℕ) → IsRising row_cmp rows → k < length rows → (set_row rows k).live ≡ true →
+    position (is_set (set_row rows k).object (set_row rows k).column) rows ≡ Some k
 set_placed rows k r lt live =
     let o = (set_row rows k).object in
     let c = (set_row rows k).column in
     sym (set_tests o c rows)
-    ∙ found row_cmp (λ (q : SetRow). ordering_then (nat_cmp q.object o) (nat_cmp q.column c)) (λ (q : SetRow). q.live) (rows_follow o c) rows k none r lt (ap (λ x. ordering_then x (nat_cmp c c)) (equal o) ∙ equal c)
+    ∙ found row_cmp (λ (q : SetRow). ordering_then (nat_cmp q.object o) (nat_cmp q.column c)) (λ (q : SetRow). q.live) (rows_follow o c) rows k none r lt
+    (ap (λ x. ordering_then x (nat_cmp c c)) (equal o) ∙ equal c)
     ∙ ap (λ b. if b then Some k else None) live
 
 -- what it holds is what is kept there
-pub row_held : (rows : List SetRow) (k : ℕ) → IsRising row_cmp rows → k < length rows → (set_row rows k).live ≡ true → set_in (cells_in rows) (set_row rows k).object (set_row rows k).column ≡ (set_row rows k).set
+pub row_held : (rows : List SetRow) (k : ℕ) → IsRising row_cmp rows → k < length rows → (set_row rows k).live ≡ true →
+    set_in (cells_in rows) (set_row rows k).object (set_row rows k).column ≡ (set_row rows k).set
 row_held rows k r lt live =
     let o = (set_row rows k).object in
     let c = (set_row rows k).column in
@@ -122,7 +122,9 @@ pub record Child (xs : List LiveObject) (p n : ℕ) : Type 0 where
 child_in : (xs : List LiveObject) (p c n : ℕ) → contains (Object n) (children_in xs p c) ≡ true → (k : Child xs p n) × (k.object.column ≡ c)
 child_in [] p c n h = cc
 child_in (x ∷ xs) p c n h =
-    elim (is_child p c x) as (λ b. is_child p c x ≡ b → contains (Object n) (map (λ (y : LiveObject). Object y.number) (cond b (x ∷ filter (is_child p c) xs) (filter (is_child p c) xs))) ≡ true → (k : Child (x ∷ xs) p n) × (k.object.column ≡ c)) [
+    elim (is_child p c x) as (λ b. is_child p c x ≡ b →
+    contains (Object n) (map (λ (y : LiveObject). Object y.number) (cond b (x ∷ filter (is_child p c) xs) (filter (is_child p c) xs))) ≡ true →
+    (k : Child (x ∷ xs) p n) × (k.object.column ≡ c)) [
       | true ↦ λ e g. elim (one_of (is_eq (value_cmp (Object n) (Object x.number))) (contains (Object n) (children_in xs p c)) g) [
         | inl same ↦
             let is : Object n ≡ Object x.number = value_is (Object n) (Object x.number) same in
@@ -140,14 +142,18 @@ child_in (x ∷ xs) p c n h =
 child_held : (xs : List LiveObject) (x : LiveObject) (p : ℕ) → IsIn x xs → x.parent ≡ Some p → contains (Object x.number) (children_in xs p x.column) ≡ true
 child_held [] x p i e = absurd i
 child_held (y ∷ ys) x p i e =
-    elim (is_child p x.column y) as (λ b. is_child p x.column y ≡ b → contains (Object x.number) (map (λ (z : LiveObject). Object z.number) (cond b (y ∷ filter (is_child p x.column) ys) (filter (is_child p x.column) ys))) ≡ true) [
+    elim (is_child p x.column y) as (λ b. is_child p x.column y ≡ b →
+    contains (Object x.number) (map (λ (z : LiveObject). Object z.number) (cond b (y ∷ filter (is_child p x.column) ys) (filter (is_child p x.column) ys)))
+    ≡ true) [
       | true ↦ λ t. elim i [
-        | inl same ↦ ap (λ b. b || contains (Object x.number) (children_in ys p x.column)) (ap (λ (z : LiveObject). is_eq (value_cmp (Object x.number) (Object z.number))) (sym same) ∙ itself x.number)
+        | inl same ↦ ap (λ b. b || contains (Object x.number) (children_in ys p x.column))
+            (ap (λ (z : LiveObject). is_eq (value_cmp (Object x.number) (Object z.number))) (sym same) ∙ itself x.number)
         | inr j ↦ right (is_eq (value_cmp (Object x.number) (Object y.number))) (contains (Object x.number) (children_in ys p x.column)) (child_held ys x p j e)
       ]
       | false ↦ λ t. elim i [
         | inl same ↦
-            let hit : is_child p x.column y ≡ true = ap (is_child p x.column) (sym same) ∙ ap (λ b. b && is_number p x.parent) (eq-eqb x.column x.column refl) ∙ ap (is_number p) e ∙ eq-eqb p p refl in
+            let hit : is_child p x.column y ≡ true = ap (is_child p x.column) (sym same) ∙ ap (λ b. b && is_number p x.parent) (eq-eqb x.column x.column refl)
+            ∙ ap (is_number p) e ∙ eq-eqb p p refl in
             cc
         | inr j ↦ child_held ys x p j e
       ]
@@ -164,8 +170,10 @@ held_under (q ∷ rows) p c n h =
           let live = both_true q.live (q.object == p && q.column == c) e in
           let key = both_true (q.object == p) (q.column == c) live.1 in
           let holds : contains (Object n) q.set ≡ true = ap (contains (Object n)) (sym (set_first p c q (cells_in rows) e)) ∙ h in
-          ap (λ b. b || stands_under rows p n) (ap (λ b. b && (q.object == p && contains (Object n) q.set)) live.0 ∙ ap (λ b. b && contains (Object n) q.set) key.0 ∙ holds)
-      | false ↦ λ e. right (holds_under p n q) (stands_under rows p n) (held_under rows p c n (ap (contains (Object n)) (sym (set_skip p c q (cells_in rows) e)) ∙ h))
+          ap (λ b. b || stands_under rows p n) (ap (λ b. b && (q.object == p && contains (Object n) q.set)) live.0
+          ∙ ap (λ b. b && contains (Object n) q.set) key.0 ∙ holds)
+      | false ↦ λ e. right (holds_under p n q) (stands_under rows p n)
+          (held_under rows p c n (ap (contains (Object n)) (sym (set_skip p c q (cells_in rows) e)) ∙ h))
     ] refl
 
 -- a row that holds an object under another
@@ -189,7 +197,8 @@ module _ (t : Table) (sound : IsSound t) where
   xs = objects_in t.objects
 
   -- what a row of an extent holds stands under its object, in its column
-  pub row_child : (k n : ℕ) → k < length t.extents → (set_row t.extents k).live ≡ true → contains (Object n) (set_row t.extents k).set ≡ true → (c : Child xs (set_row t.extents k).object n) × (c.object.column ≡ (set_row t.extents k).column)
+  pub row_child : (k n : ℕ) → k < length t.extents → (set_row t.extents k).live ≡ true → contains (Object n) (set_row t.extents k).set ≡ true →
+      (c : Child xs (set_row t.extents k).object n) × (c.object.column ≡ (set_row t.extents k).column)
   row_child k n lt live h =
       let r = set_row t.extents k in
       child_in xs r.object r.column n (ap (contains (Object n)) (sym (sound.children r.object r.column) ∙ row_held t.extents k sound.extents lt live) ∙ h)
@@ -203,7 +212,8 @@ module _ (t : Table) (sound : IsSound t) where
   down_child x p i e = held_under t.extents p x.column x.number (ap (contains (Object x.number)) (sound.children p x.column) ∙ child_held xs x p i e)
 
 -- what was counted among a family is there
-pub number_in : (o : ℕ) (xs : List LiveObject) (ns : List ℕ) (m : ℕ) → has_number (fold (step o) ns xs) m ≡ true → (has_number ns m ≡ true) ⊎ ((x : LiveObject) × IsIn x xs × (x.number ≡ m))
+pub number_in : (o : ℕ) (xs : List LiveObject) (ns : List ℕ) (m : ℕ) → has_number (fold (step o) ns xs) m ≡ true →
+    (has_number ns m ≡ true) ⊎ ((x : LiveObject) × IsIn x xs × (x.number ≡ m))
 number_in o [] ns m h = inl h
 number_in o (x ∷ xs) ns m h =
     elim (number_in o xs (step o ns x) m h) [
@@ -219,7 +229,11 @@ by_number = on (λ (x : LiveObject). x.number) nat_cmp
 
 below_in : (y : LiveObject) (xs : List LiveObject) (x : LiveObject) → IsBelow by_number y xs → IsIn x xs → y.number < x.number
 below_in y [] x b i = absurd i
-below_in y (z ∷ zs) x b i = elim i [ inl e ↦ let less = nat_less y.number z.number b.0 in let same = ap (λ (w : LiveObject). w.number) e in omega (arith, less, same) | inr j ↦ below_in y zs x b.1 j ]
+below_in y (z ∷ zs) x b i =
+    elim i [
+      | inl e ↦ let less = nat_less y.number z.number b.0 in let same = ap (λ (w : LiveObject). w.number) e in omega (arith, less, same)
+      | inr j ↦ below_in y zs x b.1 j
+    ]
 
 -- an object that is there is the one with its number
 pub in_live : (xs : List LiveObject) (x : LiveObject) → IsRising by_number xs → IsIn x xs → object_at xs x.number ≡ Some x

@@ -29,8 +29,9 @@ use Rattle.sheet_meaning.specs.WellFormed.{HasKind, HoldsKind, IsWellFormed, sto
 use Rattle.sheet_meaning.specs.declared.workbook.StoredCell.{StoredCell}
 use Rattle.sheet_meaning.specs.declared.workbook.State.{State}
 use Rattle.sheet_state.specs.Kept.{book, AreChanged}
-use Rattle.sheet_state.proofs.SetRows.{set_of}
+use Rattle.sheet_state.proofs.SetRows.{both, set_of}
 use Rattle.sheet_state.proofs.Existing.{key}
+use Rattle.sheet_state_references.proofs.Inserted.{tie}
 
 -- objects keep their columns
 pub record Keeps (s t : State) : Type 0 where
@@ -68,20 +69,19 @@ keys_kept o c set (x ∷ xs) =
       | false ↦ ap (λ l. key x ∷ l) (keys_kept o c set xs)
     ]
 
-both : (a b : Bool) → (a && b) ≡ true → (a ≡ true) × (b ≡ true)
-both true b e = (refl, e)
-both false b e = cc
-
-typed_set : (s : State) (nodes : List Node) (o c : ℕ) (set : List Value) → HoldsKind s (record { object = o; column = c; set = set }) (column_of nodes c) → (cells : List StoredCell) → AllByRecursion (λ (x : StoredCell). HoldsKind s x (column_of nodes x.column)) cells → AllByRecursion (λ (x : StoredCell). HoldsKind s x (column_of nodes x.column)) (map (set_of o c set) cells)
+typed_set : (s : State) (nodes : List Node) (o c : ℕ) (set : List Value) → HoldsKind s (record { object = o; column = c; set = set }) (column_of nodes c) →
+    (cells : List StoredCell) → AllByRecursion (λ (x : StoredCell). HoldsKind s x (column_of nodes x.column)) cells →
+    AllByRecursion (λ (x : StoredCell). HoldsKind s x (column_of nodes x.column)) (map (set_of o c set) cells)
 typed_set s nodes o c set here [] h = tt
 typed_set s nodes o c set here (x ∷ xs) h = (
-  elim (x.object == o && x.column == c) as (λ b. (x.object == o && x.column == c) ≡ b → HoldsKind s (if b then record x { set = set } else x) (column_of nodes (if b then record x { set = set } else x).column)) [
-    | true ↦ λ e.
-        let same : x.column ≡ c = eqb-true x.column c (both (x.object == o) (x.column == c) e).1 in
-        subst (λ k. HoldsKind s (record x { set = set }) (column_of nodes k)) (sym same)
-        (holds_set s (record { object = o; column = c; set = set }) (record x { set = set }) refl (column_of nodes c) here)
-    | false ↦ λ e. h.0
-  ] refl,
+  elim (x.object == o && x.column == c) as (λ b. (x.object == o && x.column == c) ≡ b →
+      HoldsKind s (if b then record x { set = set } else x) (column_of nodes (if b then record x { set = set } else x).column)) [
+        | true ↦ λ e.
+            let same : x.column ≡ c = eqb-true x.column c (both (x.object == o) (x.column == c) e).1 in
+            subst (λ k. HoldsKind s (record x { set = set }) (column_of nodes k)) (sym same)
+            (holds_set s (record { object = o; column = c; set = set }) (record x { set = set }) refl (column_of nodes c) here)
+        | false ↦ λ e. h.0
+      ] refl,
   typed_set s nodes o c set here xs h.1,
 )
 
@@ -93,7 +93,8 @@ module _ (nodes : List Node) (s : State) (o c : ℕ) (set : List Value) where
   keeps = record { column = λ p k e. e }
 
   -- it is well formed where the values are few enough
-  pub set_well_formed : IsWellFormed (book nodes s) → HoldsKind s (record { object = o; column = c; set = set }) (column_of nodes c) → stored_values after.cells ≤ max_values → IsWellFormed (book nodes after)
+  pub set_well_formed : IsWellFormed (book nodes s) → HoldsKind s (record { object = o; column = c; set = set }) (column_of nodes c) →
+      stored_values after.cells ≤ max_values → IsWellFormed (book nodes after)
   set_well_formed w typed few = record {
     formulas = w.formulas;
     root = w.root;
@@ -119,11 +120,6 @@ numbers_same (Some n) = eq-eqb n n refl
 pub sets_same : (xs : List Value) → sets_equal xs xs ≡ true
 sets_same [] = refl
 sets_same (x ∷ xs) = ap (λ r. is_eq r && sets_equal xs xs) (tied_itself value_total x) ∙ sets_same xs
-
-tie : (r : Ordering) → is_eq r ≡ true → r ≡ Equal
-tie Less e = cc
-tie Equal e = refl
-tie Greater e = cc
 
 pub sets_are : (xs ys : List Value) → sets_equal xs ys ≡ true → xs ≡ ys
 sets_are [] [] e = refl
@@ -153,10 +149,12 @@ item_is i j e = item_same i j (tie (item_cmp i j) e)
 pub item_itself : (i : Item) → is_eq (item_cmp i i) ≡ true
 item_itself i = ap is_eq (tied_itself item_total i)
 
-pub other_set : (o c : ℕ) (set : List Value) (p k : ℕ) → ((p ≡ o) × (k ≡ c) → ⊥) → (cells : List StoredCell) → set_in (map (set_of o c set) cells) p k ≡ set_in cells p k
+pub other_set : (o c : ℕ) (set : List Value) (p k : ℕ) → ((p ≡ o) × (k ≡ c) → ⊥) → (cells : List StoredCell) →
+    set_in (map (set_of o c set) cells) p k ≡ set_in cells p k
 other_set o c set p k ne [] = refl
 other_set o c set p k ne (x ∷ xs) =
-    elim (x.object == o && x.column == c) as (λ b. (x.object == o && x.column == c) ≡ b → set_in ((if b then record x { set = set } else x) ∷ map (set_of o c set) xs) p k ≡ set_in (x ∷ xs) p k) [
+    elim (x.object == o && x.column == c) as (λ b. (x.object == o && x.column == c) ≡ b →
+    set_in ((if b then record x { set = set } else x) ∷ map (set_of o c set) xs) p k ≡ set_in (x ∷ xs) p k) [
       | true ↦ λ e.
           let h = both (x.object == o) (x.column == c) e in
           let miss : (x.object == p && x.column == k) ≡ false = missed x h.0 h.1 in
@@ -188,14 +186,21 @@ module _ (s : State) (o c : ℕ) (set : List Value) (there : set_in (with_set s 
   pub none_changed : set_in s.cells o c ≡ set → AreChanged s (with_set s o c set) []
   none_changed same i =
       elim (is_eq (item_cmp i (Stored o c))) as (λ b. is_eq (item_cmp i (Stored o c)) ≡ b → false ≡ is_changed s (with_set s o c set) i) [
-        | true ↦ λ e. sym (subst (λ j. is_changed s (with_set s o c set) j ≡ false) (sym (item_is i (Stored o c) e)) (not_changed s (with_set s o c set) (Stored o c) (ap Members (same ∙ sym there))))
-        | false ↦ λ e. sym (elsewhere i (λ h. let itself : is_eq (item_cmp i (Stored o c)) ≡ true = subst (λ j. is_eq (item_cmp j (Stored o c)) ≡ true) (sym h) (item_itself (Stored o c)) in cc))
+        | true ↦ λ e. sym
+            (subst (λ j. is_changed s (with_set s o c set) j ≡ false) (sym (item_is i (Stored o c) e))
+            (not_changed s (with_set s o c set) (Stored o c) (ap Members (same ∙ sym there))))
+        | false ↦ λ e. sym
+            (elsewhere i (λ h. let itself : is_eq (item_cmp i (Stored o c)) ≡ true =
+            subst (λ j. is_eq (item_cmp j (Stored o c)) ≡ true) (sym h) (item_itself (Stored o c)) in cc))
       ] refl
 
   -- where it wasn't, its item did
   pub one_changed : (set_in s.cells o c ≡ set → ⊥) → AreChanged s (with_set s o c set) (Stored o c ∷ [])
   one_changed ne i =
       elim (is_eq (item_cmp i (Stored o c))) as (λ b. is_eq (item_cmp i (Stored o c)) ≡ b → (b || false) ≡ is_changed s (with_set s o c set) i) [
-        | true ↦ λ e. subst (λ j. true ≡ is_changed s (with_set s o c set) j) (sym (item_is i (Stored o c) e)) (sym (ap (λ l. not (sets_equal (set_in s.cells o c) l)) there ∙ ap not (sets_differ (set_in s.cells o c) set ne)))
-        | false ↦ λ e. sym (elsewhere i (λ h. let itself : is_eq (item_cmp i (Stored o c)) ≡ true = subst (λ j. is_eq (item_cmp j (Stored o c)) ≡ true) (sym h) (item_itself (Stored o c)) in cc))
+        | true ↦ λ e. subst (λ j. true ≡ is_changed s (with_set s o c set) j) (sym (item_is i (Stored o c) e))
+            (sym (ap (λ l. not (sets_equal (set_in s.cells o c) l)) there ∙ ap not (sets_differ (set_in s.cells o c) set ne)))
+        | false ↦ λ e. sym
+            (elsewhere i (λ h. let itself : is_eq (item_cmp i (Stored o c)) ≡ true =
+            subst (λ j. is_eq (item_cmp j (Stored o c)) ≡ true) (sym h) (item_itself (Stored o c)) in cc))
       ] refl

@@ -1,5 +1,6 @@
 -- A workbook without an object and all below it.
-use Rattle.std.proofs.Common.{◌≡◌, refl, sym, ap, ◌∙◌, ℕ, ◌+◌, ◌<◌, ◌≤◌, suc, Bool, true, false, cond, List, [], ◌∷◌, ◌++◌, length, arith, Option, Some, None, eq-eqb, inl, inr, length-append}
+use Rattle.std.proofs.Common.{◌≡◌, refl, sym, ap, ◌∙◌, ℕ, ◌+◌, ◌<◌, ◌≤◌, suc, Bool, true, false, cond, List, [], ◌∷◌, ◌++◌, length, arith, Option, Some, None}
+use Rattle.std.proofs.Common.{eq-eqb, inl, inr, length-append}
 use Rattle.std.specs.Prelude.{not, ◌==◌, ◌||◌, if◌then◌else◌, map, filter, fold, sum_by}
 use Rattle.std.specs.List.{flat_map, AllByRecursion}
 use Rattle.std.specs.declared.cmp.Ordering.{Ordering}
@@ -33,6 +34,7 @@ use Rattle.sheet_state.proofs.Bearing.{formulas_counted}
 use Rattle.sheet_state.proofs.Existing.{key}
 use Rattle.sheet_state.proofs.Family.{has_more}
 use Rattle.sheet_state.proofs.WithSet.{all_mono}
+use Rattle.sheet_state_references.proofs.Searched.{nat_less}
 
 abbrev pub step : ℕ → List ℕ → LiveObject → List ℕ
 step o ns x = if x.number == o || has_parent_in ns x.parent then ns ++ x.number ∷ [] else ns
@@ -49,7 +51,8 @@ step_other o ns x m ne =
     ]
 
 -- nor do steps of later objects
-steps_later : (o : ℕ) (xs : List LiveObject) (ns : List ℕ) (m : ℕ) → AllByRecursion (λ (x : LiveObject). m < x.number) xs → has_number (fold (step o) ns xs) m ≡ has_number ns m
+steps_later : (o : ℕ) (xs : List LiveObject) (ns : List ℕ) (m : ℕ) → AllByRecursion (λ (x : LiveObject). m < x.number) xs →
+    has_number (fold (step o) ns xs) m ≡ has_number ns m
 steps_later o [] ns m h = refl
 steps_later o (x ∷ xs) ns m h =
     let lt = h.0 in
@@ -59,16 +62,6 @@ steps_later o (x ∷ xs) ns m h =
 abbrev pub IsLower : ℕ → Option ℕ → Type 0
 IsLower n None = n ≡ 0
 IsLower n (Some p) = p < n
-
-pub nat_less : (a b : ℕ) → nat_cmp a b ≡ Less → a < b
-nat_less a b e =
-    elim (cases_lt a b) [
-      | inl lt ↦ lt
-      | inr ge ↦ elim (cases_lt b a) [
-        | inl gt ↦ let h : nat_cmp a b ≡ Greater = sym (nat_cmp_is a b Greater gt) in let clash : Less ≡ Greater = sym e ∙ h in cc
-        | inr le ↦ let same : a ≡ b = omega arith in let h : nat_cmp a b ≡ Equal = sym (nat_cmp_is a b Equal same) in let clash : Less ≡ Equal = sym e ∙ h in cc
-      ]
-    ]
 
 abbrev by_number : LiveObject → LiveObject → Ordering
 by_number = on (λ (x : LiveObject). x.number) nat_cmp
@@ -81,10 +74,12 @@ below_all x (y ∷ ys) b = (nat_less x.number y.number b.0, below_all x ys b.1)
 abbrev pub IsClosed : ℕ → List ℕ → LiveObject → Type 0
 IsClosed o ns x = has_number ns x.number ≡ (x.number == o || has_parent_in ns x.parent)
 
-closed : (o : ℕ) (xs : List LiveObject) (ns : List ℕ) → IsRising by_number xs → AllByRecursion (λ (x : LiveObject). IsLower x.number x.parent) xs → AllByRecursion (λ (x : LiveObject). has_number ns x.number ≡ false) xs → AllByRecursion (IsClosed o (fold (step o) ns xs)) xs
+closed : (o : ℕ) (xs : List LiveObject) (ns : List ℕ) → IsRising by_number xs → AllByRecursion (λ (x : LiveObject). IsLower x.number x.parent) xs →
+    AllByRecursion (λ (x : LiveObject). has_number ns x.number ≡ false) xs → AllByRecursion (IsClosed o (fold (step o) ns xs)) xs
 closed o [] ns r lower fresh = tt
 closed o (x ∷ xs) ns r lower fresh = (
-  steps_later o xs (step o ns x) x.number above ∙ here (x.number == o || has_parent_in ns x.parent) ∙ ap (λ b. x.number == o || b) (sym (parents x.parent lower.0)),
+  steps_later o xs (step o ns x) x.number above ∙ here (x.number == o || has_parent_in ns x.parent)
+      ∙ ap (λ b. x.number == o || b) (sym (parents x.parent lower.0)),
   closed o xs (step o ns x) r.1 lower.1 (still xs above fresh.1),
 )
   where
@@ -101,18 +96,22 @@ closed o (x ∷ xs) ns r lower fresh = (
         steps_later o xs (step o ns x) p (all_mono (λ (y : LiveObject). x.number < y.number) (λ (y : LiveObject). p < y.number) (λ y lt. omega arith) xs above)
         ∙ step_other o ns x p (λ e. omega arith)
 
-    still : (ys : List LiveObject) → AllByRecursion (λ (y : LiveObject). x.number < y.number) ys → AllByRecursion (λ (y : LiveObject). has_number ns y.number ≡ false) ys → AllByRecursion (λ (y : LiveObject). has_number (step o ns x) y.number ≡ false) ys
+    still : (ys : List LiveObject) → AllByRecursion (λ (y : LiveObject). x.number < y.number) ys →
+        AllByRecursion (λ (y : LiveObject). has_number ns y.number ≡ false) ys →
+        AllByRecursion (λ (y : LiveObject). has_number (step o ns x) y.number ≡ false) ys
     still [] a f = tt
     still (y ∷ ys) a f = (let lt = a.0 in step_other o ns x y.number (λ e. omega arith) ∙ f.0, still ys a.1 f.1)
 
 -- the root isn't below any other
-rootless : (o : ℕ) → 0 < o → (xs : List LiveObject) (ns : List ℕ) → AllByRecursion (λ (x : LiveObject). IsLower x.number x.parent) xs → has_number (fold (step o) ns xs) 0 ≡ has_number ns 0
+rootless : (o : ℕ) → 0 < o → (xs : List LiveObject) (ns : List ℕ) → AllByRecursion (λ (x : LiveObject). IsLower x.number x.parent) xs →
+    has_number (fold (step o) ns xs) 0 ≡ has_number ns 0
 rootless o positive [] ns h = refl
 rootless o positive (x ∷ xs) ns h = rootless o positive xs (step o ns x) h.1 ∙ at x.parent h.0 refl
   where
     at : (p : Option ℕ) → IsLower x.number p → x.parent ≡ p → has_number (step o ns x) 0 ≡ has_number ns 0
     at None root e =
-        let no : (x.number == o || has_parent_in ns x.parent) ≡ false = ap (λ b. b || has_parent_in ns x.parent) (differs x.number o (λ h. omega arith)) ∙ ap (has_parent_in ns) e in
+        let no : (x.number == o || has_parent_in ns x.parent) ≡ false = ap (λ b. b || has_parent_in ns x.parent) (differs x.number o (λ h. omega arith))
+        ∙ ap (has_parent_in ns) e in
         ap (λ b. has_number (if b then ns ++ x.number ∷ [] else ns) 0) no
     at (Some p) lt e = step_other o ns x 0 (λ h. omega arith)
 
@@ -121,7 +120,8 @@ module _ (nodes : List Node) (s : State) (w : IsWellFormed (book nodes s)) (o : 
   gone = family s.objects o
 
   lower : AllByRecursion (λ (x : LiveObject). IsLower x.number x.parent) s.objects
-  lower = all_mono (λ (x : LiveObject). IsUnder (book nodes s) x x.parent) (λ (x : LiveObject). IsLower x.number x.parent) (λ x h. at x x.parent h) s.objects w.under
+  lower = all_mono (λ (x : LiveObject). IsUnder (book nodes s) x x.parent) (λ (x : LiveObject). IsLower x.number x.parent) (λ x h. at x x.parent h) s.objects
+      w.under
     where
       at : (x : LiveObject) (p : Option ℕ) → IsUnder (book nodes s) x p → IsLower x.number p
       at x None h = h.0
@@ -148,10 +148,13 @@ found_left ns [] m = nobody (has_number ns m)
     nobody true = refl
     nobody false = refl
 found_left ns (x ∷ xs) m =
-    elim (x.number == m) as (λ b. (x.number == m) ≡ b → object_at (cond (stays ns x) (x ∷ filter (stays ns) xs) (filter (stays ns) xs)) m ≡ (if has_number ns m then None else (if b then Some x else object_at xs m))) [
+    elim (x.number == m) as (λ b. (x.number == m) ≡ b →
+    object_at (cond (stays ns x) (x ∷ filter (stays ns) xs) (filter (stays ns) xs)) m ≡ (if has_number ns m then None
+    else (if b then Some x else object_at xs m))) [
       | true ↦ λ e.
           let same : x.number ≡ m = eqb-true x.number m e in
-          elim (has_number ns x.number) as (λ b. has_number ns x.number ≡ b → object_at (cond (not b) (x ∷ filter (stays ns) xs) (filter (stays ns) xs)) m ≡ (if has_number ns m then None else Some x)) [
+          elim (has_number ns x.number) as (λ b. has_number ns x.number ≡ b →
+          object_at (cond (not b) (x ∷ filter (stays ns) xs) (filter (stays ns) xs)) m ≡ (if has_number ns m then None else Some x)) [
             | true ↦ λ h.
                 let dead : has_number ns m ≡ true = ap (has_number ns) (sym same) ∙ h in
                 found_left ns xs m ∙ ap (λ b. if b then None else object_at xs m) dead ∙ sym (ap (λ b. if b then None else Some x) dead)
@@ -160,7 +163,8 @@ found_left ns (x ∷ xs) m =
                 ap (λ b. if b then Some x else object_at (filter (stays ns) xs) m) e ∙ sym (ap (λ b. if b then None else Some x) alive)
           ] refl
       | false ↦ λ e.
-          elim (has_number ns x.number) as (λ b. object_at (cond (not b) (x ∷ filter (stays ns) xs) (filter (stays ns) xs)) m ≡ (if has_number ns m then None else object_at xs m)) [
+          elim (has_number ns x.number)
+          as (λ b. object_at (cond (not b) (x ∷ filter (stays ns) xs) (filter (stays ns) xs)) m ≡ (if has_number ns m then None else object_at xs m)) [
             | true ↦ found_left ns xs m
             | false ↦ ap (λ b. if b then Some x else object_at (filter (stays ns) xs) m) e ∙ found_left ns xs m
           ]
@@ -169,24 +173,34 @@ found_left ns (x ∷ xs) m =
 pub children_left : (ns : List ℕ) (xs : List LiveObject) (o c : ℕ) → children_in (filter (stays ns) xs) o c ≡ filter (is_other ns) (children_in xs o c)
 children_left ns [] o c = refl
 children_left ns (x ∷ xs) o c =
-    elim (has_number ns x.number) as (λ h. has_number ns x.number ≡ h → children_in (cond (not h) (x ∷ filter (stays ns) xs) (filter (stays ns) xs)) o c ≡ filter (is_other ns) (children_in (x ∷ xs) o c)) [
+    elim (has_number ns x.number) as (λ h. has_number ns x.number ≡ h →
+    children_in (cond (not h) (x ∷ filter (stays ns) xs) (filter (stays ns) xs)) o c ≡ filter (is_other ns) (children_in (x ∷ xs) o c)) [
       | true ↦ λ e.
-          elim (is_child o c x) as (λ b. children_in (filter (stays ns) xs) o c ≡ filter (is_other ns) (map (λ (y : LiveObject). Object y.number) (cond b (x ∷ filter (is_child o c) xs) (filter (is_child o c) xs)))) [
-            | true ↦ children_left ns xs o c ∙ sym (ap (λ h. cond (not h) (Object x.number ∷ filter (is_other ns) (children_in xs o c)) (filter (is_other ns) (children_in xs o c))) e)
+          elim (is_child o c x)
+          as (λ b. children_in (filter (stays ns) xs) o c ≡ filter (is_other ns)
+          (map (λ (y : LiveObject). Object y.number) (cond b (x ∷ filter (is_child o c) xs) (filter (is_child o c) xs)))) [
+            | true ↦ children_left ns xs o c
+                ∙ sym (ap (λ h. cond (not h) (Object x.number ∷ filter (is_other ns) (children_in xs o c)) (filter (is_other ns) (children_in xs o c))) e)
             | false ↦ children_left ns xs o c
           ]
       | false ↦ λ e.
-          elim (is_child o c x) as (λ b. map (λ (y : LiveObject). Object y.number) (cond b (x ∷ filter (is_child o c) (filter (stays ns) xs)) (filter (is_child o c) (filter (stays ns) xs))) ≡ filter (is_other ns) (map (λ (y : LiveObject). Object y.number) (cond b (x ∷ filter (is_child o c) xs) (filter (is_child o c) xs)))) [
-            | true ↦ ap (λ l. Object x.number ∷ l) (children_left ns xs o c) ∙ sym (ap (λ h. cond (not h) (Object x.number ∷ filter (is_other ns) (children_in xs o c)) (filter (is_other ns) (children_in xs o c))) e)
+          elim (is_child o c x)
+          as (λ b. map (λ (y : LiveObject). Object y.number)
+          (cond b (x ∷ filter (is_child o c) (filter (stays ns) xs)) (filter (is_child o c) (filter (stays ns) xs))) ≡ filter (is_other ns)
+          (map (λ (y : LiveObject). Object y.number) (cond b (x ∷ filter (is_child o c) xs) (filter (is_child o c) xs)))) [
+            | true ↦ ap (λ l. Object x.number ∷ l) (children_left ns xs o c)
+                ∙ sym (ap (λ h. cond (not h) (Object x.number ∷ filter (is_other ns) (children_in xs o c)) (filter (is_other ns) (children_in xs o c))) e)
             | false ↦ children_left ns xs o c
           ]
     ] refl
 
 pub filter_all : {A : Type 0} (P : A → Type 0) (p : A → Bool) (xs : List A) → AllByRecursion P xs → AllByRecursion P (filter p xs)
 filter_all P p [] h = tt
-filter_all P p (x ∷ xs) h = elim (p x) as (λ b. AllByRecursion P (cond b (x ∷ filter p xs) (filter p xs))) [ true ↦ (h.0, filter_all P p xs h.1) | false ↦ filter_all P p xs h.1 ]
+filter_all P p (x ∷ xs) h =
+    elim (p x) as (λ b. AllByRecursion P (cond b (x ∷ filter p xs) (filter p xs))) [ true ↦ (h.0, filter_all P p xs h.1) | false ↦ filter_all P p xs h.1 ]
 
-filter_kept : {A : Type 0} (P Q : A → Type 0) (p : A → Bool) → ((x : A) → p x ≡ true → P x → Q x) → (xs : List A) → AllByRecursion P xs → AllByRecursion Q (filter p xs)
+filter_kept : {A : Type 0} (P Q : A → Type 0) (p : A → Bool) → ((x : A) → p x ≡ true → P x → Q x) → (xs : List A) → AllByRecursion P xs →
+    AllByRecursion Q (filter p xs)
 filter_kept P Q p f [] h = tt
 filter_kept {A} P Q p f (x ∷ xs) h =
     elim (p x) as (λ b. p x ≡ b → AllByRecursion Q (cond b (x ∷ filter p xs) (filter p xs))) [
@@ -217,10 +231,12 @@ cleaned ns x = record x { set = filter (is_other ns) x.set }
 abbrev pub cell_stays : List ℕ → StoredCell → Bool
 cell_stays ns x = not (has_number ns x.object)
 
-pub keys_left : (ns : List ℕ) (cells : List StoredCell) → map key (map (cleaned ns) (filter (cell_stays ns) cells)) ≡ filter (λ (p : ℕ × ℕ). not (has_number ns p.0)) (map key cells)
+pub keys_left : (ns : List ℕ) (cells : List StoredCell) →
+    map key (map (cleaned ns) (filter (cell_stays ns) cells)) ≡ filter (λ (p : ℕ × ℕ). not (has_number ns p.0)) (map key cells)
 keys_left ns [] = refl
 keys_left ns (x ∷ xs) =
-    elim (has_number ns x.object) as (λ h. map key (map (cleaned ns) (cond (not h) (x ∷ filter (cell_stays ns) xs) (filter (cell_stays ns) xs))) ≡ cond (not h) (key x ∷ filter (λ (p : ℕ × ℕ). not (has_number ns p.0)) (map key xs)) (filter (λ (p : ℕ × ℕ). not (has_number ns p.0)) (map key xs))) [
+    elim (has_number ns x.object) as (λ h. map key (map (cleaned ns) (cond (not h) (x ∷ filter (cell_stays ns) xs) (filter (cell_stays ns) xs))) ≡ cond (not h)
+    (key x ∷ filter (λ (p : ℕ × ℕ). not (has_number ns p.0)) (map key xs)) (filter (λ (p : ℕ × ℕ). not (has_number ns p.0)) (map key xs))) [
       | true ↦ keys_left ns xs
       | false ↦ ap (λ l. key x ∷ l) (keys_left ns xs)
     ]
@@ -228,39 +244,53 @@ keys_left ns (x ∷ xs) =
 abbrev pair_stays : List ℕ → ℕ × ℕ → Bool
 pair_stays ns p = not (has_number ns p.0)
 
-pairs_gone : {A : Type 0} (ns : List ℕ) (n : ℕ) (number : A → ℕ) → has_number ns n ≡ true → (us : List A) (rest : List (ℕ × ℕ)) → filter (pair_stays ns) (map (λ (a : A). (n, number a)) us ++ rest) ≡ filter (pair_stays ns) rest
+pairs_gone : {A : Type 0} (ns : List ℕ) (n : ℕ) (number : A → ℕ) → has_number ns n ≡ true → (us : List A) (rest : List (ℕ × ℕ)) →
+    filter (pair_stays ns) (map (λ (a : A). (n, number a)) us ++ rest) ≡ filter (pair_stays ns) rest
 pairs_gone ns n number e [] rest = refl
 pairs_gone {A} ns n number e (a ∷ us) rest =
-    ap (λ h. cond (not h) ((n, number a) ∷ filter (pair_stays ns) (map (λ (b : A). (n, number b)) us ++ rest)) (filter (pair_stays ns) (map (λ (b : A). (n, number b)) us ++ rest))) e
+    ap (λ h. cond (not h) ((n, number a) ∷ filter (pair_stays ns) (map (λ (b : A). (n, number b)) us ++ rest))
+    (filter (pair_stays ns) (map (λ (b : A). (n, number b)) us ++ rest))) e
     ∙ pairs_gone ns n number e us rest
 
-pairs_kept : {A : Type 0} (ns : List ℕ) (n : ℕ) (number : A → ℕ) → has_number ns n ≡ false → (us : List A) (rest : List (ℕ × ℕ)) → filter (pair_stays ns) (map (λ (a : A). (n, number a)) us ++ rest) ≡ map (λ (a : A). (n, number a)) us ++ filter (pair_stays ns) rest
+pairs_kept : {A : Type 0} (ns : List ℕ) (n : ℕ) (number : A → ℕ) → has_number ns n ≡ false → (us : List A) (rest : List (ℕ × ℕ)) →
+    filter (pair_stays ns) (map (λ (a : A). (n, number a)) us ++ rest) ≡ map (λ (a : A). (n, number a)) us ++ filter (pair_stays ns) rest
 pairs_kept ns n number e [] rest = refl
 pairs_kept {A} ns n number e (a ∷ us) rest =
-    ap (λ h. cond (not h) ((n, number a) ∷ filter (pair_stays ns) (map (λ (b : A). (n, number b)) us ++ rest)) (filter (pair_stays ns) (map (λ (b : A). (n, number b)) us ++ rest))) e
+    ap (λ h. cond (not h) ((n, number a) ∷ filter (pair_stays ns) (map (λ (b : A). (n, number b)) us ++ rest))
+    (filter (pair_stays ns) (map (λ (b : A). (n, number b)) us ++ rest))) e
     ∙ ap (λ l. (n, number a) ∷ l) (pairs_kept ns n number e us rest)
 
 -- the cells of an object are all kept, or all gone
-pub pairs_left : {A : Type 0} (ns : List ℕ) (g : LiveObject → List A) (number : A → ℕ) (objects : List LiveObject) → filter (λ (p : ℕ × ℕ). not (has_number ns p.0)) (flat_map (λ (x : LiveObject). map (λ (a : A). (x.number, number a)) (g x)) objects) ≡ flat_map (λ (x : LiveObject). map (λ (a : A). (x.number, number a)) (g x)) (filter (stays ns) objects)
+pub pairs_left : {A : Type 0} (ns : List ℕ) (g : LiveObject → List A) (number : A → ℕ) (objects : List LiveObject) →
+    filter (λ (p : ℕ × ℕ). not (has_number ns p.0)) (flat_map (λ (x : LiveObject). map (λ (a : A). (x.number, number a)) (g x)) objects) ≡ flat_map
+    (λ (x : LiveObject). map (λ (a : A). (x.number, number a)) (g x)) (filter (stays ns) objects)
 pairs_left ns g number [] = refl
 pairs_left {A} ns g number (x ∷ xs) =
-    elim (has_number ns x.number) as (λ h. has_number ns x.number ≡ h → filter (λ (p : ℕ × ℕ). not (has_number ns p.0)) (map (λ (a : A). (x.number, number a)) (g x) ++ flat_map (λ (y : LiveObject). map (λ (a : A). (y.number, number a)) (g y)) xs) ≡ flat_map (λ (y : LiveObject). map (λ (a : A). (y.number, number a)) (g y)) (cond (not h) (x ∷ filter (stays ns) xs) (filter (stays ns) xs))) [
-      | true ↦ λ e. pairs_gone ns x.number number e (g x) (flat_map (λ (y : LiveObject). map (λ (a : A). (y.number, number a)) (g y)) xs) ∙ pairs_left ns g number xs
-      | false ↦ λ e. pairs_kept ns x.number number e (g x) (flat_map (λ (y : LiveObject). map (λ (a : A). (y.number, number a)) (g y)) xs) ∙ ap (λ l. map (λ (a : A). (x.number, number a)) (g x) ++ l) (pairs_left ns g number xs)
+    elim (has_number ns x.number) as (λ h. has_number ns x.number ≡ h →
+    filter (λ (p : ℕ × ℕ). not (has_number ns p.0))
+    (map (λ (a : A). (x.number, number a)) (g x) ++ flat_map (λ (y : LiveObject). map (λ (a : A). (y.number, number a)) (g y)) xs) ≡ flat_map
+    (λ (y : LiveObject). map (λ (a : A). (y.number, number a)) (g y)) (cond (not h) (x ∷ filter (stays ns) xs) (filter (stays ns) xs))) [
+      | true ↦ λ e. pairs_gone ns x.number number e (g x) (flat_map (λ (y : LiveObject). map (λ (a : A). (y.number, number a)) (g y)) xs)
+          ∙ pairs_left ns g number xs
+      | false ↦ λ e. pairs_kept ns x.number number e (g x) (flat_map (λ (y : LiveObject). map (λ (a : A). (y.number, number a)) (g y)) xs)
+          ∙ ap (λ l. map (λ (a : A). (x.number, number a)) (g x) ++ l) (pairs_left ns g number xs)
     ] refl
 
 -- how many cells the objects have
 abbrev pub weight_of : List Node → LiveObject → ℕ
 weight_of nodes x = length (state_columns (schema_of nodes) x.column) + length (formula_columns nodes x.column)
 
-pub cells_weighed : (nodes : List Node) (objects : List LiveObject) (cells : List StoredCell) (next : ℕ) → cell_count (book nodes (record { objects = objects; cells = cells; next = next })) ≡ sum_by (weight_of nodes) objects
+pub cells_weighed : (nodes : List Node) (objects : List LiveObject) (cells : List StoredCell) (next : ℕ) →
+    cell_count (book nodes (record { objects = objects; cells = cells; next = next })) ≡ sum_by (weight_of nodes) objects
 cells_weighed nodes [] cells next = refl
 cells_weighed nodes (x ∷ xs) cells next =
     let whole = sum_by-cons (weight_of nodes) x xs in
     let rest = cells_weighed nodes xs cells next in
-    let states = length-append {A = ℕ × ℕ} (map (λ (k : StateColumn). (x.number, k.number)) (state_columns (schema_of nodes) x.column)) (state_cells (book nodes (record { objects = xs; cells = cells; next = next }))) in
+    let states = length-append {A = ℕ × ℕ} (map (λ (k : StateColumn). (x.number, k.number)) (state_columns (schema_of nodes) x.column))
+    (state_cells (book nodes (record { objects = xs; cells = cells; next = next }))) in
     let as_many = length-map {B = ℕ × ℕ} (state_columns (schema_of nodes) x.column) (λ (k : StateColumn). (x.number, k.number)) in
-    let formulas = length-append (cells_of (schema_of nodes) x.number x.column) (formula_cells (book nodes (record { objects = xs; cells = cells; next = next }))) in
+    let formulas = length-append (cells_of (schema_of nodes) x.number x.column)
+    (formula_cells (book nodes (record { objects = xs; cells = cells; next = next }))) in
     let counted = formulas_counted nodes x.number x.column in
     omega (arith, whole, rest, states, as_many, formulas, counted)
 
@@ -288,10 +318,15 @@ module _ (nodes : List Node) (s : State) (w : IsWellFormed (book nodes s)) (o : 
   holds_left : (x : StoredCell) (c : Option Column) → HoldsKind s x c → HoldsKind after (cleaned ns x) c
   holds_left x None h = h
   holds_left x (Some column.Object) h = h
-  holds_left x (Some (column.State k one first)) h = (filter_rising value_cmp value_total (is_other ns) x.set h.0, filter_kept (HasKind s k) (HasKind after k) (is_other ns) (λ v a g. kind_left k v a g) x.set h.1)
+  holds_left x (Some (column.State k one first)) h = (
+    filter_rising value_cmp value_total (is_other ns) x.set h.0,
+    filter_kept (HasKind s k) (HasKind after k) (is_other ns) (λ v a g. kind_left k v a g) x.set
+        h.1,
+  )
   holds_left x (Some (column.Formula k)) h = h
 
-  all_cleaned : (cells : List StoredCell) → AllByRecursion (λ (x : StoredCell). HoldsKind s x (column_of nodes x.column)) cells → AllByRecursion (λ (x : StoredCell). HoldsKind after x (column_of nodes x.column)) (map (cleaned ns) cells)
+  all_cleaned : (cells : List StoredCell) → AllByRecursion (λ (x : StoredCell). HoldsKind s x (column_of nodes x.column)) cells →
+      AllByRecursion (λ (x : StoredCell). HoldsKind after x (column_of nodes x.column)) (map (cleaned ns) cells)
   all_cleaned [] h = tt
   all_cleaned (x ∷ xs) h = (holds_left x (column_of nodes x.column) h.0, all_cleaned xs h.1)
 
@@ -304,7 +339,8 @@ module _ (nodes : List Node) (s : State) (w : IsWellFormed (book nodes s)) (o : 
       let rest = values_cleaned xs in
       omega (arith, a, b, short, rest)
 
-  under_left : (x : LiveObject) (p : Option ℕ) → IsClosed o ns x → x.parent ≡ p → stays ns x ≡ true → IsUnder (book nodes s) x p → IsUnder (book nodes after) x p
+  under_left : (x : LiveObject) (p : Option ℕ) → IsClosed o ns x → x.parent ≡ p → stays ns x ≡ true → IsUnder (book nodes s) x p →
+      IsUnder (book nodes after) x p
   under_left x None closed_at e alive h = h
   under_left x (Some p) closed_at e alive h =
       (h.0, h.1, (h.2.0, h.2.1, column_left p h.2.0 parent_stays h.2.2))
@@ -313,7 +349,8 @@ module _ (nodes : List Node) (s : State) (w : IsWellFormed (book nodes s)) (o : 
       parent_stays =
           elim (has_number ns p) as (λ b. has_number ns p ≡ b → b ≡ false) [
             | true ↦ λ t.
-                let inside : has_number ns x.number ≡ true = closed_at ∙ ap (λ q. x.number == o || has_parent_in ns q) e ∙ ap (λ b. x.number == o || b) t ∙ or_true (x.number == o) in
+                let inside : has_number ns x.number ≡ true = closed_at ∙ ap (λ q. x.number == o || has_parent_in ns q) e ∙ ap (λ b. x.number == o || b) t
+                ∙ or_true (x.number == o) in
                 let out : not true ≡ true = ap not (sym inside) ∙ alive in
                 cc
             | false ↦ λ t. refl
@@ -343,11 +380,14 @@ module _ (nodes : List Node) (s : State) (w : IsWellFormed (book nodes s)) (o : 
         root = found_left ns s.objects 0 ∙ ap (λ b. if b then None else object_at s.objects 0) (root_stays nodes s w o positive) ∙ w.root;
         rising = filter_rising by_number (on_total (λ (x : LiveObject). x.number) nat_cmp_total) (stays ns) s.objects w.rising;
         under =
-            filter_kept (λ (x : LiveObject). IsClosed o ns x × IsUnder (book nodes s) x x.parent) (λ (x : LiveObject). IsUnder (book nodes after) x x.parent) (stays ns) (λ x alive h. under_left x x.parent h.0 refl alive h.1) s.objects
+            filter_kept (λ (x : LiveObject). IsClosed o ns x × IsUnder (book nodes s) x x.parent) (λ (x : LiveObject). IsUnder (book nodes after) x x.parent)
+            (stays ns) (λ x alive h. under_left x x.parent h.0 refl alive h.1) s.objects
             (zip_all (IsClosed o ns) (λ (x : LiveObject). IsUnder (book nodes s) x x.parent) s.objects (family_closed nodes s w o positive) w.under);
         drawn = filter_all (λ (x : LiveObject). x.number < s.next) (stays ns) s.objects w.drawn;
-        cells = keys_left ns s.cells ∙ ap (filter (λ (p : ℕ × ℕ). not (has_number ns p.0))) w.cells ∙ pairs_left ns (λ (x : LiveObject). state_columns (schema_of nodes) x.column) (λ (k : StateColumn). k.number) s.objects;
-        typed = all_cleaned (filter (cell_stays ns) s.cells) (filter_all (λ (x : StoredCell). HoldsKind s x (column_of nodes x.column)) (cell_stays ns) s.cells w.typed);
+        cells = keys_left ns s.cells ∙ ap (filter (λ (p : ℕ × ℕ). not (has_number ns p.0))) w.cells
+            ∙ pairs_left ns (λ (x : LiveObject). state_columns (schema_of nodes) x.column) (λ (k : StateColumn). k.number) s.objects;
+        typed = all_cleaned (filter (cell_stays ns) s.cells)
+            (filter_all (λ (x : StoredCell). HoldsKind s x (column_of nodes x.column)) (cell_stays ns) s.cells w.typed);
         few_objects = omega arith;
         few_cells = omega arith;
         few_values = omega arith;

@@ -1,5 +1,6 @@
 -- Books of definitions are well typed.
-use Rattle.std.proofs.Common.{◌≡◌, ℕ, ◌+◌, ◌<◌, ◌≤◌, zero, suc, Bool, true, false, cond, List, [], ◌∷◌, ◌++◌, length, map, Option, Some, None, Ok, Err, refl, sym, ap, ◌∙◌, subst, append_assoc, length-append, arith}
+use Rattle.std.proofs.Common.{◌≡◌, ℕ, ◌+◌, ◌<◌, ◌≤◌, zero, suc, Bool, true, false, cond, List, [], ◌∷◌, ◌++◌, length, map, Option, Some, None, Ok, Err, refl}
+use Rattle.std.proofs.Common.{sym, ap, ◌∙◌, subst, append_assoc, length-append, arith}
 use Rattle.std.specs.Prelude.{slice_index_or, is_some, codes}
 use Rattle.std.specs.List.{AllByRecursion}
 use Rattle.std.proofs.lemmas.List.{length-map}
@@ -36,20 +37,20 @@ use Rattle.sheet_types_bodies.specs.Rules.{ProceduresAreTyped, ViewsAreTyped}
 use Rattle.sheet_books.specs.Books.{is_known, IsFormulaOf, HasFormula, HaveFormulas, IsWellTypedProcedure, IsWellTypedView, IsWellTyped}
 use Rattle.sheet_books.specs.Within.{KindsAreWithin}
 use Rattle.sheet_types.specs.declared.bodies.Bodies.{Bodies}
-use Rattle.sheet_types.specs.Elaboration.{judged, column_formula, column_body, with_procedure, with_view, add_column, judge, no_bodies, all_judged, with_kinds, last_kinds, settled, book_of, with_bodies}
+use Rattle.sheet_types.specs.Elaboration.{judged, column_formula, column_body, with_procedure, with_view, add_column, judge, no_bodies, all_judged, with_kinds}
+use Rattle.sheet_types.specs.Elaboration.{last_kinds, settled, book_of, with_bodies}
 use Rattle.sheet_types.specs.WellTyped.{BooksAreWellTyped}
-use Rattle.sheet_types.proofs.SettledLemmas.{FormulasHaveKinds, AreAllKindsIn, AreFrom, from_first, first_is, from_next, first_within, rounds_within, settled_object, settled_length, settled_parameters, settled_firsts, settled_columns, settled_forms}
+use Rattle.sheet_types.proofs.SettledLemmas.{FormulasHaveKinds, AreAllKindsIn, AreFrom, from_first, first_is, from_next, first_within, rounds_within}
+use Rattle.sheet_types.proofs.SettledLemmas.{settled_object, settled_length, settled_parameters, settled_firsts, settled_columns, settled_forms}
+use Rattle.sheet_types_outline.proofs.WithinLemmas.{all_more}
 
 append_nil : {A : Type 0} (xs : List A) → xs ++ [] ≡ xs
 append_nil [] = refl
 append_nil (x ∷ xs) = ap (λ t. x ∷ t) (append_nil xs)
 
-all_more : {A : Type 0} (P : A → Type 0) (xs : List A) (x : A) → AllByRecursion P xs → P x → AllByRecursion P (xs ++ x ∷ [])
-all_more P [] x all here = (here, tt)
-all_more P (y ∷ xs) x all here = (all.0, all_more P xs x all.1 here)
-
 -- the type of a formula column among those of all columns
-formula_kind : (k : ℕ) (nodes : List Node) (c : ℕ) (l : Kind) → column_of nodes c ≡ Some (column.Formula l) → slice_index_or (kinds_from k nodes) c kind.Unknown ≡ l
+formula_kind : (k : ℕ) (nodes : List Node) (c : ℕ) (l : Kind) → column_of nodes c ≡ Some (column.Formula l) →
+    slice_index_or (kinds_from k nodes) c kind.Unknown ≡ l
 formula_kind k [] c l is = cc
 formula_kind k (n ∷ nodes) zero l is = let same : n.column ≡ column.Formula l = cc in ap (kind_of_column k) same
 formula_kind k (n ∷ nodes) (suc c) l is = formula_kind (k + 1) nodes c l is
@@ -71,7 +72,8 @@ judged_known n c kind.Text found u is = record { known = refl; serves = held (is
 judged_known n c (kind.Object d) found u is = record { known = refl; serves = held (is_some (common (kind.Object d) found)) _ u is }
 
 module _ (haves : FormulasHaveKinds) where
-  formula_has : (n : List Node) (c : ℕ) (l : Kind) (e : Tree) (f : Core) → column_of n c ≡ Some (column.Formula l) → column_formula n (kinds_from 0 n) c e ≡ Ok f → IsFormulaOf n c l f
+  formula_has : (n : List Node) (c : ℕ) (l : Kind) (e : Tree) (f : Core) → column_of n c ≡ Some (column.Formula l) →
+      column_formula n (kinds_from 0 n) c e ≡ Ok f → IsFormulaOf n c l f
   formula_has n c l e f there is =
       let kinds = kinds_from 0 n in
       let k = slice_index_or kinds c kind.Unknown in
@@ -82,7 +84,8 @@ module _ (haves : FormulasHaveKinds) where
       let has = haves n kinds (record { name = codes "this"; kind = kind.Object (home n c) } ∷ []) e a.0 a.1 in
       (j.known, subst (λ g. suits l (kind_in g n kinds (kind.Object (home n c) ∷ [])) ≡ true) same (ap (suits l) has ∙ j.serves))
 
-  body_has : (n : List Node) (c : ℕ) (x : Column) (w : Content) (f : Option Core) → column_of n c ≡ Some x → form x ≡ untyped w → column_body n (kinds_from 0 n) c (formula_in w) ≡ Ok f → HasFormula n c x f
+  body_has : (n : List Node) (c : ℕ) (x : Column) (w : Content) (f : Option Core) → column_of n c ≡ Some x → form x ≡ untyped w →
+      column_body n (kinds_from 0 n) c (formula_in w) ≡ Ok f → HasFormula n c x f
   body_has n c column.Object content.Object f there same is = sym (same_ok None f is)
   body_has n c column.Object (content.State t one first) f there same is = cc
   body_has n c column.Object (content.Formula t e) f there same is = cc
@@ -120,7 +123,8 @@ module _ (haves : FormulasHaveKinds) (o : Outline) where
   goes (declaration.Column w ∷ ds) c s t [] counted is from forms = cc
   goes (declaration.Column w ∷ ds) c s t (m ∷ ms) counted is from forms =
       let a = both_ok (add_column o kinds s w) (λ u. in_turn (judge o kinds) u ds) t is in
-      let b = both_ok (column_body o.columns kinds (length s.formulas) (formula_in w.content)) (λ f. Ok (record s { formulas = s.formulas ++ f ∷ [] })) a.0 a.1 in
+      let b = both_ok (column_body o.columns kinds (length s.formulas) (formula_in w.content)) (λ f. Ok (record s { formulas = s.formulas ++ f ∷ [] })) a.0
+      a.1 in
       let next : Bodies = record s { formulas = s.formulas ++ b.0 ∷ [] } in
       let e : next ≡ a.0 = same_ok next a.0 b.2 in
       let here : form m.column ≡ untyped w.content = cc in
@@ -212,7 +216,8 @@ module _ (typed_procedures : ProceduresAreTyped) (typed_views : ViewsAreTyped) (
       let a = both_ok (judge o own s d) (λ u. in_turn (judge o own) u ds) t is in
       all_typed ds a.0 t procedures views (step_typed s a.0 d procedures views all a.1) a.2
 
-settled_lists : (ks : List Kind) (nodes : List Node) (lists : List (List (List ℕ × Kind))) → AllByRecursion (AreParametersIn nodes) lists → AllByRecursion (AreParametersIn (with_kinds ks 0 nodes)) lists
+settled_lists : (ks : List Kind) (nodes : List Node) (lists : List (List (List ℕ × Kind))) → AllByRecursion (AreParametersIn nodes) lists →
+    AllByRecursion (AreParametersIn (with_kinds ks 0 nodes)) lists
 settled_lists ks nodes [] all = tt
 settled_lists ks nodes (ps ∷ lists) all = (settled_parameters ks nodes ps all.0, settled_lists ks nodes lists all.1)
 
@@ -269,7 +274,8 @@ objects_fit d o ks w =
     omega (arith, settled_count, count, same, objects)
 
 -- what the third pass makes of an outline whose formula columns have these types
-pub made_by : (d : Definition) (o : Outline) (columns : List Node) (ks : List Kind) (ds : List Declaration) (s : Bodies) → columns ≡ with_kinds (last_kinds d o) 0 o.columns
+pub made_by : (d : Definition) (o : Outline) (columns : List Node) (ks : List Kind) (ds : List Declaration) (s : Bodies) →
+    columns ≡ with_kinds (last_kinds d o) 0 o.columns
     → ks ≡ kinds_from 0 columns → ds ≡ d.declarations → all_judged (record o { columns = columns }) ks ds ≡ Ok s
     → with_bodies (settled d o) d.declarations ≡ Ok (book_of (record o { columns = columns }) s)
 made_by d o columns ks ds s settled_is kinds_are declared made =

@@ -1,6 +1,5 @@
 // The formulas of columns, and the columns with their last types.
-ghost use Rattle.std.specs.Prelude.{◌≡◌, ◌<◌, length, option_map, slice_index_or, IfOk};
-ghost use Rattle.sheet_values.specs.declared.value.Kind.TheVariants as kind;
+ghost use Rattle.std.specs.Prelude.{◌≡◌, ◌<◌, length, option_map, IfOk};
 ghost use Rattle.sheet_columns.specs.Tree.{path};
 ghost use Rattle.sheet_types_formulas.specs.Answers.{Answers};
 ghost use Rattle.sheet_types_formulas.specs.Kinds.{kind_text as text_of};
@@ -8,19 +7,11 @@ ghost use Rattle.sheet_types.specs.Elaboration.{judged as judged_column, column_
 
 use sheet_columns::{Columns, Core};
 use sheet_syntax_trees::Tree;
-use sheet_types_formulas::{Scope, TypeRefusal, Variable, common_kind, kind_text, type_formula};
+use sheet_types_formulas::{
+    Scope, TypeRefusal, Variable, common_kind, kind_at, kind_text, type_formula,
+};
 use sheet_values::{Kind, Name, NoMemory};
 use std::alloc::Global;
-
-/// The type of a column, as far as it is known.
-pub(crate) fn kind_at(kinds: &[Kind], column: u32) -> Kind
-    ensures { result ≡ slice_index_or kinds.now column kind.Unknown }
-{
-    match kinds.get(column as usize) {
-        Some(kind) => *kind,
-        None => Kind::Unknown,
-    }
-}
 
 // The refusal of a column of the first type whose formula has the second.
 fn declared_other(
@@ -41,7 +32,7 @@ fn declared_other(
 
 // Whether a column of that type may have a formula of the other: `NeedsType` where its type isn't known, `DeclaredOther` where the
 // formula's is known and another.
-fn judge(
+fn check_declared(
     alloc: Global,
     columns: &Columns,
     column: u32,
@@ -83,7 +74,7 @@ fn column_formula(
         variables: &variables,
     };
     let typed = type_formula(alloc, &scope, tree)?;
-    judge(alloc, columns, column, kind_at(kinds, column), typed.kind)?;
+    check_declared(alloc, columns, column, kind_at(kinds, column), typed.kind)?;
     Ok(typed.core)
 }
 

@@ -7,14 +7,13 @@ ghost use Rattle.sheet_types_rounds.specs.Rounds.{formulas_of, final_kinds as fi
 ghost use Rattle.sheet_types.specs.Elaboration.{elaborated, with_kinds as columns_with_kinds};
 
 use crate::bodies::judge_all;
-use crate::columns::kind_at;
 use crate::law::books_are_well_typed;
 use sheet_books::{Book, Contents};
 use sheet_columns::{Column, Columns};
 use sheet_define_data::Definition;
+use sheet_types_formulas::{TypeRefusal, kind_at};
 use sheet_types_outline::{outline_definition, outlines_are_within};
-use sheet_types_rounds::{final_kinds, first_kinds};
-use sheet_types_formulas::TypeRefusal;
+use sheet_types_rounds::{column_kinds, final_kinds};
 use sheet_values::{Kind, NoMemory};
 use std::alloc::Global;
 
@@ -57,7 +56,7 @@ pub fn elaborate(alloc: Global, definition: &Definition) -> Result<Book, TypeRef
     books_are_well_typed();
     let mut outline = outline_definition(alloc, definition)?;
     settle(alloc, &mut outline.columns, definition)?;
-    let kinds = first_kinds(alloc, &outline.columns)?;
+    let kinds = column_kinds(alloc, &outline.columns)?;
     let declarations = definition.declarations.as_slice();
     let bodies = judge_all(alloc, &outline, kinds.as_slice(), declarations)?;
     let book = Book::new(Contents {

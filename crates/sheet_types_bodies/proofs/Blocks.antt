@@ -4,7 +4,8 @@ use Rattle.std.specs.Prelude.{Result, Ok, Err, OnOk}
 use Rattle.sheet_values.specs.declared.value.Kind.TheVariants as kind
 use Rattle.sheet_columns.specs.declared.statement.CoreStatement.{CoreStatement}
 use Rattle.sheet_syntax_trees.specs.declared.tree.Tree.{Tree}
-use Rattle.sheet_define_data.specs.declared.statement.Statement.{Statement, Row_of-Statement, end_of-Statement, more_of-Statement, items-the_row-Statement, items_hidden-the_row-Statement-0}
+use Rattle.sheet_define_data.specs.declared.statement.Statement.{Statement, Row_of-Statement, end_of-Statement, more_of-Statement, items-the_row-Statement}
+use Rattle.sheet_define_data.specs.declared.statement.Statement.{items_hidden-the_row-Statement-0}
 use Rattle.sheet_define_data.specs.declared.statement.Statement.TheVariants as written
 use Rattle.sheet_define_data.specs.declared.statement.Statement.TheBlock.{hidden-the_row-Statement-0}
 use Rattle.sheet_types_formulas.specs.declared.refusal.TypeRefusal.{TypeRefusal}
@@ -13,13 +14,16 @@ use Rattle.sheet_types_formulas.specs.Names.{Reach, bind}
 use Rattle.sheet_types_formulas.specs.Typing.{typed}
 use Rattle.sheet_types_formulas.specs.declared.scope.Variable.{Variable}
 use Rattle.sheet_types_bodies.specs.Calls.{Begins}
-use Rattle.sheet_types_bodies.specs.Statements.{Step, Block, block, before, formula_of, statement, statements, in_block, if_of, if_else_of, for_of, if_statement, if_else_statement, for_statement}
-use Rattle.sheet_types_bodies.proofs.Steps.{then_same, handed_on, drop_item, drop_past, append_none}
+use Rattle.sheet_types_bodies.specs.Statements.{Step, Block, block, before, formula_of, statement, statements, in_block, if_of, if_else_of, for_of}
+use Rattle.sheet_types_bodies.specs.Statements.{if_statement, if_else_statement, for_statement}
+use Rattle.sheet_types_bodies.proofs.Steps.{then_same, handed_on, drop_past, append_none}
+use Rattle.sheet_types_formulas.proofs.Recursion.{drop_item}
 
 each_statement : {m : _} (row : Row_of-Statement m) (r : Reach) (n : ℕ) → statements row r n ≡ in_block (items-the_row-Statement m row) r n
 each_statement end_of-Statement r n = refl
 each_statement (more_of-Statement x rest) r n =
-    then_same (statement x r n) (λ s. statements rest s.reach s.next >>= (λ b. Ok (before (s.core ∷ []) b))) (λ s. in_block (items-the_row-Statement _ rest) s.reach s.next >>= (λ b. Ok (before (s.core ∷ []) b)))
+    then_same (statement x r n) (λ s. statements rest s.reach s.next >>= (λ b. Ok (before (s.core ∷ []) b)))
+    (λ s. in_block (items-the_row-Statement _ rest) s.reach s.next >>= (λ b. Ok (before (s.core ∷ []) b)))
     (λ s. ap (λ a. a >>= (λ b. Ok (before (s.core ∷ []) b))) (each_statement rest s.reach s.next))
 
 pub as_list : (xs : List Statement) (r : Reach) (n : ℕ) → statements (hidden-the_row-Statement-0 xs) r n ≡ in_block xs r n
@@ -36,14 +40,17 @@ paired (Err e) b f = refl
 
 pub statement-If : (line : ℕ) (e : Tree) (body : List Statement) (r : Reach) (n : ℕ) → statement (written.If line e body) r n ≡ if_statement e body r n
 statement-If line e body r n =
-    then_same (formula_of kind.Truth e r) (λ c. statements (hidden-the_row-Statement-0 body) r (n + 1) >>= (λ b. Ok (if_of r n c b))) (λ c. in_block body r (n + 1) >>= (λ b. Ok (if_of r n c b)))
+    then_same (formula_of kind.Truth e r) (λ c. statements (hidden-the_row-Statement-0 body) r (n + 1) >>= (λ b. Ok (if_of r n c b)))
+    (λ c. in_block body r (n + 1) >>= (λ b. Ok (if_of r n c b)))
     (λ c. ap (λ a. a >>= (λ b. Ok (if_of r n c b))) (as_list body r (n + 1)))
     ∙ paired (formula_of kind.Truth e r) (in_block body r (n + 1)) (λ c b. Ok (if_of r n c b))
 
-pub statement-IfElse : (line : ℕ) (e : Tree) (body otherwise : List Statement) (r : Reach) (n : ℕ) → statement (written.IfElse line e body otherwise) r n ≡ if_else_statement e body otherwise r n
+pub statement-IfElse : (line : ℕ) (e : Tree) (body otherwise : List Statement) (r : Reach) (n : ℕ) →
+    statement (written.IfElse line e body otherwise) r n ≡ if_else_statement e body otherwise r n
 statement-IfElse line e body otherwise r n =
     then_same (formula_of kind.Truth e r)
-    (λ c. statements (hidden-the_row-Statement-0 body) r (n + 1) >>= (λ b. statements (hidden-the_row-Statement-0 otherwise) r b.next >>= (λ o. Ok (if_else_of r n c b o))))
+    (λ c. statements (hidden-the_row-Statement-0 body) r
+    (n + 1) >>= (λ b. statements (hidden-the_row-Statement-0 otherwise) r b.next >>= (λ o. Ok (if_else_of r n c b o))))
     (λ c. in_block body r (n + 1) >>= (λ b. in_block otherwise r b.next >>= (λ o. Ok (if_else_of r n c b o))))
     (λ c.
     then_same (statements (hidden-the_row-Statement-0 body) r (n + 1))
@@ -56,7 +63,8 @@ statement-IfElse line e body otherwise r n =
 pub statement-For : (line : ℕ) (x : List ℕ) (e : Tree) (body : List Statement) (r : Reach) (n : ℕ)
     → statement (written.For line x e body) r n ≡ for_statement x e body r n
 statement-For line x e body r n =
-    then_same (typed e r) (λ s. statements (hidden-the_row-Statement-0 body) (bind r x s.kind) (n + 1) >>= (λ b. Ok (for_of r n s.core b))) (λ s. in_block body (bind r x s.kind) (n + 1) >>= (λ b. Ok (for_of r n s.core b)))
+    then_same (typed e r) (λ s. statements (hidden-the_row-Statement-0 body) (bind r x s.kind) (n + 1) >>= (λ b. Ok (for_of r n s.core b)))
+    (λ s. in_block body (bind r x s.kind) (n + 1) >>= (λ b. Ok (for_of r n s.core b)))
     (λ s. ap (λ a. a >>= (λ b. Ok (for_of r n s.core b))) (as_list body (bind r x s.kind) (n + 1)))
 
 -- statements of which the first ones are made
@@ -109,8 +117,10 @@ begins_then (x ∷ xs) (y ∷ ys) (z ∷ zs) h g =
 
 -- ---- the loop over statements
 
-module _ (xs : List Statement) (i : ℕ) (r : Reach) (n : ℕ) (made : List CoreStatement) (whole : Answer Block) (so_far : whole ≡ rest_of_block made (drop i xs) r n) where
-  pub statement_goes_on : (x : Statement) (s : Step) (more : List CoreStatement) → i < length xs → x ≡ get_or xs i x → statement x r n ≡ Ok s → more ≡ made ++ s.core ∷ []
+module _ (xs : List Statement) (i : ℕ) (r : Reach) (n : ℕ) (made : List CoreStatement) (whole : Answer Block)
+    (so_far : whole ≡ rest_of_block made (drop i xs) r n) where
+  pub statement_goes_on : (x : Statement) (s : Step) (more : List CoreStatement) → i < length xs → x ≡ get_or xs i x → statement x r n ≡ Ok s →
+      more ≡ made ++ s.core ∷ []
       → whole ≡ rest_of_block more (drop (i + 1) xs) s.reach s.next
   statement_goes_on x s more lt is told one =
       so_far
@@ -118,7 +128,8 @@ module _ (xs : List Statement) (i : ℕ) (r : Reach) (n : ℕ) (made : List Core
       ∙ statement_made made x (drop (i + 1) xs) r n s told
       ∙ ap (λ ys. rest_of_block ys (drop (i + 1) xs) s.reach s.next) (sym one)
 
-  pub statement_stops : {C D : Type 0} (view : C → Step) (see : D → Block) (x : Statement) (e : TypeRefusal) → i < length xs → x ≡ get_or xs i x → AnswersAs view (Err e) (statement x r n) → AnswersAs see (Err e) whole
+  pub statement_stops : {C D : Type 0} (view : C → Step) (see : D → Block) (x : Statement) (e : TypeRefusal) → i < length xs → x ≡ get_or xs i x →
+      AnswersAs view (Err e) (statement x r n) → AnswersAs see (Err e) whole
   statement_stops view see x e lt is told =
       handed_on e view see (statement x r n) whole told
       (λ h. so_far ∙ ap (λ rest. rest_of_block made rest r n) (drop_item xs i x lt is) ∙ statement_refused made x (drop (i + 1) xs) r n e h)

@@ -2,10 +2,12 @@
 use Rattle.std.proofs.Common.{◌≡◌, refl, sym, ◌∙◌, ap, subst, ℕ, ◌+◌, ◌<◌, ◌≤◌, zero, suc, List, [], ◌∷◌, ◌++◌, length, get_or, drop, append_assoc, arith}
 use Rattle.std.specs.Prelude.{Result, Ok, Err}
 use Rattle.sheet_types_formulas.specs.declared.refusal.TypeRefusal.{TypeRefusal}
-use Rattle.sheet_types_formulas.specs.declared.refusal.TypeRefusal.TheVariants.{Doubled, TooDeep, TooMany, UnknownName, Mismatch, NeedsFirst, NeedsType, DeclaredOther, NoMemory}
+use Rattle.sheet_types_formulas.specs.declared.refusal.TypeRefusal.TheVariants.{Doubled, TooDeep, TooMany, UnknownName, Mismatch, NeedsFirst, NeedsType}
+use Rattle.sheet_types_formulas.specs.declared.refusal.TypeRefusal.TheVariants.{DeclaredOther, NoMemory}
 use Rattle.std.specs.Result.{IsErrAnd}
 use Rattle.sheet_types_formulas.specs.Answers.{Answer, Answers, AnswersAs, ◌>>=◌}
 use Rattle.sheet_types_bodies.specs.Parts.{in_turn}
+use Rattle.sheet_types_formulas.proofs.Recursion.{drop_item, drop_suc}
 
 -- second steps that are the same
 pub then_same : {A B : Type 0} (a : Answer A) (f g : A → Answer B) → ((x : A) → f x ≡ g x) → a >>= f ≡ a >>= g
@@ -125,15 +127,6 @@ passed_plainly e told whole r same a h = seen_as_it_is r whole (passed_on e told
 
 -- ---- loops over slices
 
-drop_suc : {X : Type 0} (xs : List X) (i : ℕ) (x : X) → i < length xs → x ≡ get_or xs i x → drop i xs ≡ x ∷ drop (suc i) xs
-drop_suc [] i x lt is = absurd (omega arith)
-drop_suc (y ∷ xs) zero x lt is = ap (λ z. z ∷ xs) (sym is)
-drop_suc (y ∷ xs) (suc i) x lt is = drop_suc xs i x (omega arith) is
-
--- what is left of a list begins with its next element
-pub drop_item : {X : Type 0} (xs : List X) (i : ℕ) (x : X) → i < length xs → x ≡ get_or xs i x → drop i xs ≡ x ∷ drop (i + 1) xs
-drop_item xs i x lt is = let one : suc i ≡ i + 1 = omega arith in drop_suc xs i x lt is ∙ ap (λ k. x ∷ drop k xs) one
-
 -- nothing is left past the end
 pub drop_past : {X : Type 0} (xs : List X) (i : ℕ) → length xs ≤ i → drop i xs ≡ []
 drop_past [] zero le = refl
@@ -145,9 +138,11 @@ pub append_none : {X : Type 0} (xs : List X) → xs ++ [] ≡ xs
 append_none [] = refl
 append_none (x ∷ xs) = ap (λ ys. x ∷ ys) (append_none xs)
 
-module _ {X Y : Type 0} (f : X → ℕ → Answer Y) (count : X → ℕ) (xs : List X) (i n : ℕ) (made : List Y) (whole : Answer (List Y)) (so_far : whole ≡ rest_in_turn f count made (drop i xs) n) where
+module _ {X Y : Type 0} (f : X → ℕ → Answer Y) (count : X → ℕ) (xs : List X) (i n : ℕ) (made : List Y) (whole : Answer (List Y))
+    (so_far : whole ≡ rest_in_turn f count made (drop i xs) n) where
   -- a turn makes one more
-  pub turn_goes_on : (x : X) (y : Y) (more : List Y) (m : ℕ) → i < length xs → x ≡ get_or xs i x → f x n ≡ Ok y → more ≡ made ++ y ∷ [] → m ≡ n + count x → whole ≡ rest_in_turn f count more (drop (i + 1) xs) m
+  pub turn_goes_on : (x : X) (y : Y) (more : List Y) (m : ℕ) → i < length xs → x ≡ get_or xs i x → f x n ≡ Ok y → more ≡ made ++ y ∷ [] → m ≡ n + count x →
+      whole ≡ rest_in_turn f count more (drop (i + 1) xs) m
   turn_goes_on x y more m lt is told one next =
       so_far
       ∙ ap (λ rest. rest_in_turn f count made rest n) (drop_item xs i x lt is)

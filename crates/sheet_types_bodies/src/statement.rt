@@ -1,6 +1,5 @@
 // Statements.
-ghost use Rattle.std.specs.Prelude.{◌≡◌, ◌+◌, ◌++◌, ◌∷◌, [], IfOk, OnOk, slice_index_or};
-ghost use Rattle.sheet_values.specs.declared.value.Kind.TheVariants.{Unknown};
+ghost use Rattle.std.specs.Prelude.{◌≡◌, ◌+◌, ◌++◌, ◌∷◌, [], IfOk, OnOk};
 ghost use Rattle.sheet_types_formulas.specs.Answers.{Answers, AnswersAs};
 ghost use Rattle.sheet_types_bodies.specs.Calls.{here, made_with, Begins};
 ghost use Rattle.sheet_types_bodies.specs.Statements.{let_of, changed as changed_to, change_of, new_of, delete_of, check_of, reply_of};
@@ -10,7 +9,7 @@ use crate::target::{objects_target, state_target};
 use sheet_columns::{Change, Core, CoreStatement, Statements, Target as CoreTarget};
 use sheet_define_data::Target;
 use sheet_syntax_trees::Tree;
-use sheet_types_formulas::{TypeRefusal, Variable};
+use sheet_types_formulas::{TypeRefusal, Variable, kind_at};
 use sheet_values::{Kind, Name, NoMemory};
 use std::alloc::Global;
 
@@ -71,16 +70,6 @@ pub(crate) fn let_statement(
         value: value.core,
     };
     Ok(Step { core, next })
-}
-
-// The type of a column's values, as far as it is known.
-fn kind_at(kinds: &[Kind], column: u32) -> Kind
-    ensures { result ≡ slice_index_or kinds.now column Unknown }
-{
-    match kinds.get(column as usize) {
-        Some(kind) => *kind,
-        None => Kind::Unknown,
-    }
 }
 
 // The rest of `set t = e`, `add e to t` and `remove e from t`, where the target is resolved.

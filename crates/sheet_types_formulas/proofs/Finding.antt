@@ -1,5 +1,6 @@
 -- What is found by a name.
-use Rattle.std.proofs.Common.{◌≡◌, ℕ, ◌+◌, ◌<◌, ◌≤◌, zero, suc, Bool, true, false, List, [], ◌∷◌, ◌++◌, length, Option, Some, None, refl, sym, ap, ◌∙◌, subst, arith, cond}
+use Rattle.std.proofs.Common.{◌≡◌, ℕ, ◌+◌, ◌<◌, ◌≤◌, zero, suc, Bool, true, false, List, [], ◌∷◌, ◌++◌, length, Option, Some, None, refl, sym, ap, ◌∙◌, subst}
+use Rattle.std.proofs.Common.{arith, cond}
 use Rattle.std.specs.Prelude.{◌&&◌, bytes_eq, slice_get, option_map, option_and_then, unwrap_or, if◌then◌else◌, Result, Ok, Err, IfOk}
 use Rattle.std.specs.Option.{option_or}
 use Rattle.std.specs.List.{position_from}
@@ -22,7 +23,8 @@ or_or None p q = refl
 or_or (Some x) p q = refl
 
 -- the variables behind some others come first
-pub variable_append : (p line : ℕ) (name : List ℕ) (xs ys : List Variable) → variable_from p line name (xs ++ ys) ≡ option_or (variable_from (p + length xs) line name ys) (variable_from p line name xs)
+pub variable_append : (p line : ℕ) (name : List ℕ) (xs ys : List Variable) →
+    variable_from p line name (xs ++ ys) ≡ option_or (variable_from (p + length xs) line name ys) (variable_from p line name xs)
 variable_append p line name [] ys =
     let same : p + 0 ≡ p = omega arith in
     ap (λ q. variable_from q line name ys) (sym same) ∙ sym (or_none (variable_from (p + 0) line name ys))
@@ -33,13 +35,15 @@ variable_append p line name (x ∷ xs) ys =
     ∙ or_or (variable_from (p + length (x ∷ xs)) line name ys) (variable_from (p + 1) line name xs) _
 
 -- the last one has the name
-pub variable_found : (p line : ℕ) (name : List ℕ) (xs : List Variable) (v : Variable) → bytes_eq v.name name ≡ true → variable_from p line name (xs ++ v ∷ []) ≡ Some (typed_as line (core.Variable (p + length xs)) v.kind)
+pub variable_found : (p line : ℕ) (name : List ℕ) (xs : List Variable) (v : Variable) → bytes_eq v.name name ≡ true →
+    variable_from p line name (xs ++ v ∷ []) ≡ Some (typed_as line (core.Variable (p + length xs)) v.kind)
 variable_found p line name xs v e =
     variable_append p line name xs (v ∷ [])
     ∙ ap (λ b. option_or (if b then Some (typed_as line (core.Variable (p + length xs)) v.kind) else None) (variable_from p line name xs)) e
 
 -- or it hasn't
-pub variable_passed : (p line : ℕ) (name : List ℕ) (xs : List Variable) (v : Variable) → bytes_eq v.name name ≡ false → variable_from p line name (xs ++ v ∷ []) ≡ variable_from p line name xs
+pub variable_passed : (p line : ℕ) (name : List ℕ) (xs : List Variable) (v : Variable) → bytes_eq v.name name ≡ false →
+    variable_from p line name (xs ++ v ∷ []) ≡ variable_from p line name xs
 variable_passed p line name xs v e =
     variable_append p line name xs (v ∷ [])
     ∙ ap (λ b. option_or (if b then Some (typed_as line (core.Variable (p + length xs)) v.kind) else None) (variable_from p line name xs)) e
@@ -47,14 +51,14 @@ variable_passed p line name xs v e =
 -- ---- columns
 
 -- the element of a list at a place that is found, where the list begins at j
-record Found {A : Type 0} (q : A → Bool) (j k : ℕ) (xs : List A) : Type 0 where
-  element : A
-  index : ℕ
-  at : k ≡ j + index
-  got : slice_get xs index ≡ Some element
-  passes : q element ≡ true
+pub record Found {A : Type 0} (q : A → Bool) (j k : ℕ) (xs : List A) : Type 0 where
+  pub element : A
+  pub index : ℕ
+  pub at : k ≡ j + index
+  pub got : slice_get xs index ≡ Some element
+  pub passes : q element ≡ true
 
-found_from : {A : Type 0} (q : A → Bool) (j k : ℕ) (xs : List A) → position_from q j xs ≡ Some k → Found q j k xs
+pub found_from : {A : Type 0} (q : A → Bool) (j k : ℕ) (xs : List A) → position_from q j xs ≡ Some k → Found q j k xs
 found_from q j k [] e = let wrong : ⊥ = cc in absurd wrong
 found_from q j k (x ∷ xs) e =
     elim (q x) as (λ b. q x ≡ b → cond b (Some j) (position_from q (j + 1) xs) ≡ Some k → Found q j k (x ∷ xs)) [
@@ -65,7 +69,7 @@ found_from q j k (x ∷ xs) e =
           record { element = f.element; index = suc f.index; at = shifted; got = f.got; passes = f.passes }
     ] refl e
 
-both_true : (a b : Bool) → a && b ≡ true → a ≡ true
+pub both_true : (a b : Bool) → a && b ≡ true → a ≡ true
 both_true true b e = refl
 both_true false b e = let wrong : ⊥ = cc in absurd wrong
 
@@ -73,7 +77,7 @@ number_is : (k : ℕ) (o : Option ℕ) → is_number k o ≡ true → o ≡ Some
 number_is k None e = let wrong : ⊥ = cc in absurd wrong
 number_is k (Some j) e = let same : k ≡ j = eqb-true k j e in ap Some (sym same)
 
-found_child : (nodes : List Node) (above c : ℕ) (name : List ℕ) → child_named nodes above name ≡ Some c → Found (is_child_named above name) 0 c nodes
+pub found_child : (nodes : List Node) (above c : ℕ) (name : List ℕ) → child_named nodes above name ≡ Some c → Found (is_child_named above name) 0 c nodes
 found_child nodes above c name e = found_from (is_child_named above name) 0 c nodes (sym (position_from-zero (is_child_named above name) nodes) ∙ e)
 
 -- a column that is found stands directly under that one
@@ -144,7 +148,8 @@ same_if_ok (Ok a) e h = h ∙ e
 same_if_ok (Err f) e h = tt
 
 -- the bound variables come before those around them
-pub variables_append : (line : ℕ) (name : List ℕ) (xs ys : List Variable) → variable_from 0 line name (xs ++ ys) ≡ option_or (variable_from (length xs) line name ys) (variable_from 0 line name xs)
+pub variables_append : (line : ℕ) (name : List ℕ) (xs ys : List Variable) →
+    variable_from 0 line name (xs ++ ys) ≡ option_or (variable_from (length xs) line name ys) (variable_from 0 line name xs)
 variables_append line name xs ys =
     let same : 0 + length xs ≡ length xs = omega arith in
     variable_append 0 line name xs ys ∙ ap (λ p. option_or (variable_from p line name ys) (variable_from 0 line name xs)) same

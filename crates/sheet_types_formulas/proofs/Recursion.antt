@@ -13,18 +13,19 @@ use Rattle.sheet_types_formulas.specs.Typing.{typed, typed_list}
 use Rattle.sheet_types_formulas.proofs.Agreeing.{passed, list_more, list_refused}
 
 -- a variable that is bound in a formula stands behind all others
-pub bound_within : (s : Scope) (bound inner : List Variable) (name : List ℕ) (k : Kind) → inner ≡ bound ++ record { name = name; kind = k } ∷ [] → within s inner ≡ bind (within s bound) name k
+pub bound_within : (s : Scope) (bound inner : List Variable) (name : List ℕ) (k : Kind) → inner ≡ bound ++ record { name = name; kind = k } ∷ [] →
+    within s inner ≡ bind (within s bound) name k
 bound_within s bound inner name k e =
     ap (λ vs. reach s.columns.now s.kinds.now (s.variables.now ++ vs)) e
     ∙ ap (reach s.columns.now s.kinds.now) (sym (append_assoc s.variables.now bound (record { name = name; kind = k } ∷ [])))
 
-drop_suc : {X : Type 0} (xs : List X) (i : ℕ) (x : X) → i < length xs → x ≡ get_or xs i x → drop i xs ≡ x ∷ drop (suc i) xs
+pub drop_suc : {X : Type 0} (xs : List X) (i : ℕ) (x : X) → i < length xs → x ≡ get_or xs i x → drop i xs ≡ x ∷ drop (suc i) xs
 drop_suc [] i x lt is = absurd (omega arith)
 drop_suc (y ∷ xs) zero x lt is = ap (λ z. z ∷ xs) (sym is)
 drop_suc (y ∷ xs) (suc i) x lt is = drop_suc xs i x (omega arith) is
 
 -- what is left of a list begins with its next element
-drop_item : {X : Type 0} (xs : List X) (i : ℕ) (x : X) → i < length xs → x ≡ get_or xs i x → drop i xs ≡ x ∷ drop (i + 1) xs
+pub drop_item : {X : Type 0} (xs : List X) (i : ℕ) (x : X) → i < length xs → x ≡ get_or xs i x → drop i xs ≡ x ∷ drop (i + 1) xs
 drop_item xs i x lt is = let one : suc i ≡ i + 1 = omega arith in drop_suc xs i x lt is ∙ ap (λ k. x ∷ drop k xs) one
 
 -- a part is typed

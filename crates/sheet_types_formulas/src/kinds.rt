@@ -1,5 +1,6 @@
 // Types of values: which parts agree, and how types are told in refusals.
-ghost use Rattle.std.specs.Prelude.{◌≡◌, ◌<◌, IfOk, IfSome, codes, option_and_then, length};
+ghost use Rattle.std.specs.Prelude.{◌≡◌, ◌<◌, IfOk, IfSome, codes, option_and_then, length, slice_index_or};
+ghost use Rattle.sheet_values.specs.declared.value.Kind.TheVariants.{Unknown};
 ghost use Rattle.sheet_columns.specs.Tree.{above_of, IsTree};
 ghost use Rattle.sheet_types_formulas.specs.Answers.{Answers};
 ghost use Rattle.sheet_types_rules.specs.Kinds.{common, has_order as has_order_of, objects_in};
@@ -19,6 +20,16 @@ pub fn common_kind(left: Kind, right: Kind) -> Option<Kind>
         (Kind::Unknown, _) => Some(right),
         (_, Kind::Unknown) => Some(left),
         _ => { if left == right { Some(left) } else { None } }
+    }
+}
+
+/// The type of the column of that number among these types, as far as it is known.
+pub fn kind_at(kinds: &[Kind], column: u32) -> Kind
+    ensures { result ≡ slice_index_or kinds.now column Unknown }
+{
+    match kinds.get(column as usize) {
+        Some(kind) => *kind,
+        None => Kind::Unknown,
     }
 }
 

@@ -1,11 +1,10 @@
 // What names mean: variables, and columns in reach.
-ghost use Rattle.std.specs.Prelude.{◌≡◌, ◌<◌, ◌+◌, ◌++◌, ◌∷◌, [], length, codes, IfOk, IfSome, option_map, slice_index_or};
-ghost use Rattle.sheet_values.specs.declared.value.Kind.TheVariants.{Unknown};
+ghost use Rattle.std.specs.Prelude.{◌≡◌, ◌<◌, ◌+◌, ◌++◌, ◌∷◌, [], length, codes, IfOk, IfSome, option_map};
 ghost use Rattle.sheet_columns.specs.Tree.{column_of};
 ghost use Rattle.sheet_types_formulas.specs.Answers.{Answers};
 ghost use Rattle.sheet_types_formulas.specs.Names.{within, variable_from as last_variable, variable as innermost, step_to as step_to_column, child as child_step, upward, nearest as nearest_column, column_in_reach as column_near, named as meaning_of, word as word_in_reach};
 
-use crate::kinds::above;
+use crate::kinds::{above, kind_at};
 use crate::{Scope, TypeRefusal, Typed, Variable};
 use sheet_columns::{Column, Core};
 use sheet_values::{Kind, Name, NoMemory};
@@ -85,16 +84,6 @@ fn variable(
         return Ok(Some(found));
     }
     variable_from(0, line, name, scope.variables)
-}
-
-// The type of a column, as far as it is known.
-fn kind_at(kinds: &[Kind], column: u32) -> Kind
-    ensures { result ≡ slice_index_or kinds.now column Unknown }
-{
-    match kinds.get(column as usize) {
-        Some(kind) => *kind,
-        None => Kind::Unknown,
-    }
 }
 
 // The step to a column, of which the formula gives the objects above.

@@ -1,9 +1,12 @@
 -- Steps that may be refused.
-use Rattle.std.proofs.Common.{◌≡◌, Bool, true, false, cond, Ok, Err, List, [], ◌∷◌, refl, sym, ap, ◌∙◌, ℕ, ◌+◌, ◌<◌, zero, suc, length, drop, get_or, add-one, arith}
+use Rattle.std.proofs.Common.{◌≡◌, Bool, true, false, cond, Ok, Err, List, [], ◌∷◌, refl, sym, ap, ◌∙◌, ℕ, ◌+◌, ◌<◌, zero, suc, length, drop, get_or, add-one}
+use Rattle.std.proofs.Common.{arith}
 use Rattle.sheet_types_formulas.specs.declared.refusal.TypeRefusal.{TypeRefusal}
-use Rattle.sheet_types_formulas.specs.declared.refusal.TypeRefusal.TheVariants.{Doubled, TooDeep, TooMany, UnknownName, Mismatch, NeedsFirst, NeedsType, DeclaredOther, NoMemory}
+use Rattle.sheet_types_formulas.specs.declared.refusal.TypeRefusal.TheVariants.{Doubled, TooDeep, TooMany, UnknownName, Mismatch, NeedsFirst, NeedsType}
+use Rattle.sheet_types_formulas.specs.declared.refusal.TypeRefusal.TheVariants.{DeclaredOther, NoMemory}
 use Rattle.sheet_types_formulas.specs.Answers.{Answer, Answers, ◌>>=◌}
 use Rattle.sheet_types_outline.specs.Steps.{in_turn, Leaves}
+use Rattle.sheet_types_formulas.proofs.Recursion.{drop_suc}
 
 -- where two steps aren't refused, neither is
 pub both_ok : {A B : Type 0} (r : Answer A) (f : A → Answer B) (t : B) → (r >>= f) ≡ Ok t → (x : A) × (r ≡ Ok x) × (f x ≡ Ok t)
@@ -33,7 +36,8 @@ not_refused_by true e r is = cc
 not_refused_by false e r is = refl
 
 -- a refused step refuses the whole
-pub handed_on : {S W : Type 0} (e : TypeRefusal) (new : S) (told : Answer S) (whole : Answer W) → (told ≡ Err e → whole ≡ Err e) → Leaves (Err e) new told → Answers (Err e) whole
+pub handed_on : {S W : Type 0} (e : TypeRefusal) (new : S) (told : Answer S) (whole : Answer W) → (told ≡ Err e → whole ≡ Err e) → Leaves (Err e) new told →
+    Answers (Err e) whole
 handed_on (Doubled l) new told whole f h = f h
 handed_on (TooDeep l) new told whole f h = f h
 handed_on (TooMany l) new told whole f h = f h
@@ -54,11 +58,6 @@ turn_refused step s new x xs whole e so_far h =
 pub turned : {S X : Type 0} (step : S → X → Answer S) (s t : S) (x : X) (xs : List X) (whole : Answer S)
     → in_turn step s (x ∷ xs) ≡ whole → step s x ≡ Ok t → in_turn step t xs ≡ whole
 turned step s t x xs whole so_far is = sym (ap (λ r. r >>= λ u. in_turn step u xs) is) ∙ so_far
-
-drop_suc : {X : Type 0} (xs : List X) (i : ℕ) (x : X) → i < length xs → x ≡ get_or xs i x → drop i xs ≡ x ∷ drop (suc i) xs
-drop_suc [] i x lt is = absurd (omega arith)
-drop_suc (y ∷ xs) zero x lt is = ap (λ z. z ∷ xs) (sym is)
-drop_suc (y ∷ xs) (suc i) x lt is = drop_suc xs i x (omega arith) is
 
 -- what is left of a list begins with its next element
 pub drop_item : {X : Type 0} (xs : List X) (i : ℕ) (x : X) → i < length xs → x ≡ get_or xs i x → drop i xs ≡ x ∷ drop (i + 1) xs

@@ -76,7 +76,8 @@ some_object (Some column.Object) is = refl
 some_object (Some (column.State k one first)) is = cc
 some_object (Some (column.Formula k)) is = cc
 
-chosen : (nodes : List Node) (line d c : ℕ) (b : Bool) → is_object_column nodes d ≡ b → cond b (Ok d) (Err (UnknownName line)) ≡ Ok c → column_of nodes c ≡ Some column.Object
+chosen : (nodes : List Node) (line d c : ℕ) (b : Bool) → is_object_column nodes d ≡ b → cond b (Ok d) (Err (UnknownName line)) ≡ Ok c →
+    column_of nodes c ≡ Some column.Object
 chosen nodes line d c true holds is = subst (λ k. column_of nodes k ≡ Some column.Object) (same_ok d c is) (some_object (column_of nodes d) holds)
 chosen nodes line d c false holds is = cc
 
@@ -96,7 +97,8 @@ declared_in : (nodes : List Node) (t : Option TypeName) (k : Kind) → declared_
 declared_in nodes None k is = subst (IsKindIn nodes) (same_ok kind.Unknown k is) tt
 declared_in nodes (Some t) k is = kind_in nodes t k is
 
-state_form : (nodes : List Node) (number depth : ℕ) (one : Bool) (first : Option Literal) (k : Kind) (x : columns.Column) → state_column nodes number depth one first k ≡ Ok x → form x ≡ column.State kind.Unknown one None
+state_form : (nodes : List Node) (number depth : ℕ) (one : Bool) (first : Option Literal) (k : Kind) (x : columns.Column) →
+    state_column nodes number depth one first k ≡ Ok x → form x ≡ column.State kind.Unknown one None
 state_form nodes number depth one None k x is = ap form (sym (passed (one && depth == 0) (NeedsFirst (path nodes number)) (column.State k one None) x is))
 state_form nodes number depth one (Some l) k x is =
     let a = both_ok (first_value nodes k l) (λ v. Ok (column.State k one (Some v))) x is in
@@ -132,13 +134,15 @@ step_forms nodes r t (declaration.View v) is =
     ap (λ (s : Resolved). map form s.contents) (sym e) ∙ sym (append_nil (map form r.contents))
 
 -- the contents have the declared forms
-forms_held : (nodes : List Node) (r t : Resolved) (ds : List Declaration) → in_turn (resolve nodes) r ds ≡ Ok t → map form t.contents ≡ map form r.contents ++ forms_in ds
+forms_held : (nodes : List Node) (r t : Resolved) (ds : List Declaration) → in_turn (resolve nodes) r ds ≡ Ok t →
+    map form t.contents ≡ map form r.contents ++ forms_in ds
 forms_held nodes r t [] is = ap (λ (s : Resolved). map form s.contents) (sym (same_ok r t is)) ∙ sym (append_nil (map form r.contents))
 forms_held nodes r t (d ∷ ds) is =
     let a = both_ok (resolve nodes r d) (λ u. in_turn (resolve nodes) u ds) t is in
     forms_held nodes a.0 t ds a.2 ∙ ap (λ xs. xs ++ forms_in ds) (step_forms nodes r a.0 d a.1) ∙ append_assoc (map form r.contents) (forms_at d) (forms_in ds)
 
-state_in : (nodes : List Node) (number depth : ℕ) (one : Bool) (first : Option Literal) (k : Kind) (x : columns.Column) → IsKindIn nodes k → state_column nodes number depth one first k ≡ Ok x → IsHeldIn nodes x
+state_in : (nodes : List Node) (number depth : ℕ) (one : Bool) (first : Option Literal) (k : Kind) (x : columns.Column) → IsKindIn nodes k →
+    state_column nodes number depth one first k ≡ Ok x → IsHeldIn nodes x
 state_in nodes number depth one None k x within is =
     subst (IsHeldIn nodes) (passed (one && depth == 0) (NeedsFirst (path nodes number)) (column.State k one None) x is) within
 state_in nodes number depth one (Some l) k x within is =
@@ -154,17 +158,19 @@ held_in nodes number depth (content.Formula t f) x is =
     let a = both_ok (declared_kind nodes t) (λ k. Ok (column.Formula k)) x is in
     subst (IsHeldIn nodes) (same_ok (column.Formula a.0) x a.2) (declared_in nodes t a.0 a.1)
 
-all_more : {A : Type 0} (P : A → Type 0) (xs : List A) (x : A) → AllByRecursion P xs → P x → AllByRecursion P (xs ++ x ∷ [])
+pub all_more : {A : Type 0} (P : A → Type 0) (xs : List A) (x : A) → AllByRecursion P xs → P x → AllByRecursion P (xs ++ x ∷ [])
 all_more P [] x all here = (here, tt)
 all_more P (y ∷ xs) x all here = (all.0, all_more P xs x all.1 here)
 
-parameters_in : (nodes : List Node) (typed found : List (List ℕ × Kind)) (ps : List Parameter) → AreKindsIn nodes typed → in_turn (resolve_parameter nodes) typed ps ≡ Ok found → AreKindsIn nodes found
+parameters_in : (nodes : List Node) (typed found : List (List ℕ × Kind)) (ps : List Parameter) → AreKindsIn nodes typed →
+    in_turn (resolve_parameter nodes) typed ps ≡ Ok found → AreKindsIn nodes found
 parameters_in nodes typed found [] all is = subst (AreKindsIn nodes) (same_ok typed found is) all
 parameters_in nodes typed found (p ∷ ps) all is =
     let a = both_ok (resolve_parameter nodes typed p) (λ u. in_turn (resolve_parameter nodes) u ps) found is in
     let b = both_ok (kind_of nodes p.values) (λ k. Ok (typed ++ (p.name, k) ∷ [])) a.0 a.1 in
     parameters_in nodes a.0 found ps
-    (subst (AreKindsIn nodes) (same_ok (typed ++ (p.name, b.0) ∷ []) a.0 b.2) (all_more (λ (q : List ℕ × Kind). IsKindIn nodes q.1) typed (p.name, b.0) all (kind_in nodes p.values b.0 b.1)))
+    (subst (AreKindsIn nodes) (same_ok (typed ++ (p.name, b.0) ∷ []) a.0 b.2)
+    (all_more (λ (q : List ℕ × Kind). IsKindIn nodes q.1) typed (p.name, b.0) all (kind_in nodes p.values b.0 b.1)))
     a.2
 
 -- there are as many parameters as declared
@@ -247,7 +253,8 @@ resolved_in nodes r t (d ∷ ds) few fitting all is =
     }
 
 -- object columns are object columns in the filled tree
-filled_object : (nodes : List Node) (xs : List columns.Column) (c : ℕ) → AreAlike nodes xs → column_of nodes c ≡ Some column.Object → column_of (filled nodes xs) c ≡ Some column.Object
+filled_object : (nodes : List Node) (xs : List columns.Column) (c : ℕ) → AreAlike nodes xs → column_of nodes c ≡ Some column.Object →
+    column_of (filled nodes xs) c ≡ Some column.Object
 filled_object [] xs c alike is = is
 filled_object (n ∷ nodes) [] c alike is = is
 filled_object (n ∷ nodes) (x ∷ xs) zero alike is = some_object (Some x) (sym alike.0 ∙ ap (λ o. unwrap_or (option_map holds_objects o) false) is)
@@ -270,13 +277,15 @@ all_map P Q f [] all = tt
 all_map P Q f (x ∷ xs) all = (f x all.0, all_map P Q f xs all.1)
 
 -- what holds of all contents holds of all columns that are filled with them
-all_filled : (P : columns.Column → Type 0) (nodes : List Node) (xs : List columns.Column) → map holds_objects xs ≡ map is_object_node nodes → AllByRecursion P xs → AllByRecursion (λ (n : Node). P n.column) (filled nodes xs)
+all_filled : (P : columns.Column → Type 0) (nodes : List Node) (xs : List columns.Column) → map holds_objects xs ≡ map is_object_node nodes →
+    AllByRecursion P xs → AllByRecursion (λ (n : Node). P n.column) (filled nodes xs)
 all_filled P [] xs same all = tt
 all_filled P (n ∷ nodes) [] same all = cc
 all_filled P (n ∷ nodes) (x ∷ xs) same all = (all.0, all_filled P nodes xs (cc) all.1)
 
 -- the filled columns have the forms of what they are filled with
-filled_forms : (nodes : List Node) (xs : List columns.Column) → map holds_objects xs ≡ map is_object_node nodes → map (λ (n : Node). form n.column) (filled nodes xs) ≡ map form xs
+filled_forms : (nodes : List Node) (xs : List columns.Column) → map holds_objects xs ≡ map is_object_node nodes →
+    map (λ (n : Node). form n.column) (filled nodes xs) ≡ map form xs
 filled_forms [] [] same = refl
 filled_forms [] (x ∷ xs) same = cc
 filled_forms (n ∷ nodes) [] same = cc

@@ -22,7 +22,7 @@ fn kind_of_column(number: u32, column: &Column) -> Kind
 
 /// The types that the columns have by themselves, by number: an object column's own objects, a state column's type, and a formula
 /// column's, as far as it is known.
-pub fn first_kinds(alloc: Global, columns: &Columns) -> Result<Sequence<Kind>, NoMemory>
+pub fn column_kinds(alloc: Global, columns: &Columns) -> Result<Sequence<Kind>, NoMemory>
     ensures kinds { IfOk result (λ kinds. kinds ≡ kinds_from 0 columns.now) }
     ensures few { length columns.now ≤ 1000 }
 {

@@ -7,5 +7,5 @@ mod mentions;
 mod rounds;
 mod waiting;
 
-pub use first::{first_kinds, formula_in};
+pub use first::{column_kinds, formula_in};
 pub use rounds::final_kinds;

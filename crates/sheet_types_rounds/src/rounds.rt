@@ -6,14 +6,14 @@ ghost use Rattle.sheet_types_formulas.specs.Typing.{typed};
 ghost use Rattle.sheet_types_rounds.specs.Waiting.{HoldKnown};
 ghost use Rattle.sheet_types_rounds.specs.Rounds.{formulas_of, written_formulas, at_column, kind_told, next_kind as next_kind_of, next_kinds, round as round_of, final_kinds as final_kinds_of};
 
-use crate::first::{count_formulas, first_kinds, formula_in, is_same, is_unknown, kind_at};
+use crate::first::{column_kinds, count_formulas, formula_in, is_same, is_unknown};
 use crate::known::{KnownNames, known_names};
 use crate::mentions::mentions;
 use crate::waiting::waits;
 use sheet_columns::{Columns, Sequence};
 use sheet_define_data::{Declaration, Definition};
 use sheet_syntax_trees::Tree;
-use sheet_types_formulas::{Scope, TypeRefusal, Variable, type_formula};
+use sheet_types_formulas::{Scope, TypeRefusal, Variable, kind_at, type_formula};
 use sheet_values::{Kind, Name, NoMemory};
 use std::alloc::Global;
 use std::slice::from_ref;
@@ -228,7 +228,7 @@ pub fn final_kinds(
     ensures { IfOk result (λ kinds. kinds ≡ final_kinds_of columns.now (formulas_of definition.now.declarations)) }
 {
     let declarations = definition.declarations.as_slice();
-    let mut kinds = first_kinds(alloc, columns)?;
+    let mut kinds = column_kinds(alloc, columns)?;
     let mut changed = Changed {
         all: true,
         names: Vec::new(alloc),

@@ -5,13 +5,14 @@
 mod club;
 mod cycles;
 mod formulas;
+mod names;
 mod sheet;
 mod steps;
 mod views;
 
-use test_language_words::Trouble;
 use std::alloc::Global;
 use std::process::ExitCode;
+use test_language_words::Trouble;
 
 fn main(rt: HostRuntime) -> ExitCode {
     let alloc = rt.alloc();
@@ -30,6 +31,7 @@ fn examples(alloc: Global) -> Result<String, Trouble> {
     club::add_lines(alloc, &mut text)?;
     cycles::add_lines(alloc, &mut text)?;
     formulas::add_lines(alloc, &mut text)?;
+    names::add_lines(alloc, &mut text)?;
     steps::add_lines(alloc, &mut text)?;
     views::add_lines(alloc, &mut text)?;
     Ok(text)

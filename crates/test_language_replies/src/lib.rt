@@ -4,6 +4,3 @@
 mod printing;
 
 pub use printing::{items_text, page_text, refusal_text, set_text, shown_text};
-
-#[cfg(test)]
-mod tests;

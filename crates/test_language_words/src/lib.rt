@@ -15,6 +15,3 @@ pub use statement::{
     then,
 };
 pub use trouble::Trouble;
-
-#[cfg(test)]
-mod tests;

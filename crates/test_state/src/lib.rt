@@ -11,6 +11,3 @@ pub use chance::Random;
 pub use exploring::explore;
 pub use guarded::{columns, delete, make, refer};
 pub use plain::Model;
-
-#[cfg(test)]
-mod tests;

@@ -4,7 +4,8 @@ use Rattle.sheet_syntax_trees.specs.Tokens.{Reads}
 use Rattle.sheet_syntax_trees.specs.Reading.{Answer, ◌>>=◌}
 use Rattle.sheet_define_data.specs.declared.definition.Parameter.{Parameter}
 use Rattle.sheet_define_reading.specs.Reading.{usual, with_front, more_parameters}
-use Rattle.sheet_define.proofs.Loops.{passed, both_before, parameters_end, parameters_over, parameters_more, one_less}
+use Rattle.sheet_syntax.proofs.Loops.{passed}
+use Rattle.sheet_define.proofs.Loops.{both_before, parameters_end, parameters_over, parameters_more, one_less}
 use Rattle.sheet_define.proofs.parameter.more_parameters.Goals as goal
 
 abbrev read : Parameter × Bor (List Token) → Parameter × List Token
@@ -18,7 +19,8 @@ returns-in_default c =
     let s = usual c.args.text_length in
     let P : Answer (List Parameter × List Token) → Type 0 = λ told. Reads all_read c.finished.result told in
     subst P
-    (ap (with_front c.loop.list) (sym (parameters_end s (15 - c.loop.counter) c.loop.remaining.now (sym c.in_default.ensures))) ∙ c.loop.invariant) c.finished.ensures
+    (ap (with_front c.loop.list) (sym (parameters_end s (15 - c.loop.counter) c.loop.remaining.now (sym c.in_default.ensures))) ∙ c.loop.invariant)
+    c.finished.ensures
 
 pub returns-in-Err : goal.returns-in-Err
 returns-in-Err c =
@@ -26,7 +28,8 @@ returns-in-Err c =
     passed read all_read c.in-Err.refusal _ _ c.in-Err.ensures
     (λ d h. sym c.loop.invariant
     ∙ ap (with_front c.loop.list)
-    (parameters_more s (15 - c.loop.counter) (15 - (c.loop.counter + 1)) c.loop.remaining.now c.in-Some.behind.now (one_less 15 c.loop.counter c.loop-test.true) (sym c.in-Some.ensures)
+    (parameters_more s (15 - c.loop.counter) (15 - (c.loop.counter + 1)) c.loop.remaining.now c.in-Some.behind.now (one_less 15 c.loop.counter c.loop-test.true)
+    (sym c.in-Some.ensures)
     ∙ ap (λ r. r >>= (λ p. with_front (p.0 ∷ []) (more_parameters s (15 - (c.loop.counter + 1)) p.1))) h))
 
 pub loop-preserved : goal.loop-preserved
@@ -36,7 +39,8 @@ loop-preserved c =
     ∙ sym (both_before c.loop.list (c.in-Ok.read.0 ∷ []) (more_parameters s (15 - (c.loop.counter + 1)) c.in-Ok.read.1.now))
     ∙ ap (with_front c.loop.list)
     (sym
-    (parameters_more s (15 - c.loop.counter) (15 - (c.loop.counter + 1)) c.loop.remaining.now c.in-Some.behind.now (one_less 15 c.loop.counter c.loop-test.true) (sym c.in-Some.ensures)
+    (parameters_more s (15 - c.loop.counter) (15 - (c.loop.counter + 1)) c.loop.remaining.now c.in-Some.behind.now (one_less 15 c.loop.counter c.loop-test.true)
+    (sym c.in-Some.ensures)
     ∙ ap (λ r. r >>= (λ p. with_front (p.0 ∷ []) (more_parameters s (15 - (c.loop.counter + 1)) p.1))) c.in-Ok.ensures))
     ∙ c.loop.invariant
 
@@ -45,4 +49,5 @@ returns c =
     let s = usual c.args.text_length in
     let P : Answer (List Parameter × List Token) → Type 0 = λ told. Reads all_read c.finished-2.result told in
     subst P
-    (ap (with_front c.loop.list) (sym (parameters_over s (15 - c.loop.counter) c.loop.remaining.now (omega (arith, c.loop-test.false)))) ∙ c.loop.invariant) c.finished-2.ensures
+    (ap (with_front c.loop.list) (sym (parameters_over s (15 - c.loop.counter) c.loop.remaining.now (omega (arith, c.loop-test.false)))) ∙ c.loop.invariant)
+    c.finished-2.ensures

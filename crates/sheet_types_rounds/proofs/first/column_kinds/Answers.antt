@@ -1,6 +1,6 @@
 use Rattle.std.proofs.Common.{rules, ◌≡◌, ◌++◌, ◌∷◌, []}
 use Rattle.sheet_types_rounds.proofs.TypeLemmas.{one_more, all_made}
-use Rattle.sheet_types_rounds.proofs.first.first_kinds.Goals as goal
+use Rattle.sheet_types_rounds.proofs.first.column_kinds.Goals as goal
 
 pub loop-number-preserved : goal.loop-number-preserved
 loop-number-preserved c =
