@@ -15,8 +15,10 @@ use Rattle.first_form.proofs.Spelling.{lexed_sound, lexed_complete}
 use Rattle.first_form.proofs.Producing.{parsed_sound, parsed_complete}
 use Rattle.first_form.proofs.Choosing.{well_sound, well_complete}
 
-pub found : (text : List ℕ) (ts : List Token) (d : List Declaration) → length text ≤ 262144 → tokens_from [] text ≡ Some ts → declarations_from (length ts) ts ≡ Some d → is_well_named d ≡ true → IsFirstForm text d
-found text ts d short lexed parsed named = record { short = short; tokens = ts; lexed = lexed_sound text ts lexed; parsed = parsed_sound (length ts) ts d parsed; named = well_sound d named }
+pub found : (text : List ℕ) (ts : List Token) (d : List Declaration) → length text ≤ 262144 → tokens_from [] text ≡ Some ts →
+    declarations_from (length ts) ts ≡ Some d → is_well_named d ≡ true → IsFirstForm text d
+found text ts d short lexed parsed named =
+    record { short = short; tokens = ts; lexed = lexed_sound text ts lexed; parsed = parsed_sound (length ts) ts d parsed; named = well_sound d named }
 
 -- each step finds what the definition wants
 pub tokens_read : (text : List ℕ) (d : List Declaration) (f : IsFirstForm text d) → tokens_from [] text ≡ Some f.tokens
@@ -32,17 +34,20 @@ no_tokens text none d f = let e = tokens_read text d f in cc
 pub same_tokens : (text : List ℕ) (ts : List Token) (d : List Declaration) (f : IsFirstForm text d) → tokens_from [] text ≡ Some ts → ts ≡ f.tokens
 same_tokens text ts d f is = let e = tokens_read text d f in cc
 
-pub none_parsed : (text : List ℕ) (ts : List Token) → tokens_from [] text ≡ Some ts → declarations_from (length ts) ts ≡ None → (d : List Declaration) → IsFirstForm text d → ⊥
+pub none_parsed : (text : List ℕ) (ts : List Token) → tokens_from [] text ≡ Some ts → declarations_from (length ts) ts ≡ None → (d : List Declaration) →
+    IsFirstForm text d → ⊥
 none_parsed text ts is none d f =
     let same = same_tokens text ts d f is in
     let e = ap (λ l. declarations_from (length l) l) same ∙ declarations_read text d f in cc
 
-pub same_declarations : (text : List ℕ) (ts : List Token) (found d : List Declaration) → IsFirstForm text d → tokens_from [] text ≡ Some ts → declarations_from (length ts) ts ≡ Some found → found ≡ d
+pub same_declarations : (text : List ℕ) (ts : List Token) (found d : List Declaration) → IsFirstForm text d → tokens_from [] text ≡ Some ts →
+    declarations_from (length ts) ts ≡ Some found → found ≡ d
 same_declarations text ts found d f is parsed =
     let same = same_tokens text ts d f is in
     let e = ap (λ l. declarations_from (length l) l) same ∙ declarations_read text d f in cc
 
-pub ill_named : (text : List ℕ) (ts : List Token) (found : List Declaration) → tokens_from [] text ≡ Some ts → declarations_from (length ts) ts ≡ Some found → is_well_named found ≡ false → (d : List Declaration) → IsFirstForm text d → ⊥
+pub ill_named : (text : List ℕ) (ts : List Token) (found : List Declaration) → tokens_from [] text ≡ Some ts → declarations_from (length ts) ts ≡ Some found →
+    is_well_named found ≡ false → (d : List Declaration) → IsFirstForm text d → ⊥
 ill_named text ts found is parsed named d f =
     let same = same_declarations text ts found d f is parsed in
     let e = ap is_well_named same ∙ well_complete d f.named in cc
@@ -84,7 +89,8 @@ back_short (t ∷ ts) back short = back_short ts back short.1
 abbrev AreShort : List Declaration → Type 0
 AreShort ds = AllByRecursion (λ name. length name ≤ 63) (columns ds)
 
-one_short : (front : List Token) (d : Declaration) (ds : List Declaration) → IsDeclaration front d → AllByRecursion IsShort front → AreShort ds → AreShort (d ∷ ds)
+one_short : (front : List Token) (d : Declaration) (ds : List Declaration) → IsDeclaration front d → AllByRecursion IsShort front → AreShort ds →
+    AreShort (d ∷ ds)
 one_short _ _ ds (a_state name first) short more = (short.1.0, more)
 one_short _ _ ds (a_formula name back sum made) short more = (short.1.0, more)
 one_short _ _ ds (a_procedure name parameter target value) short more = more
@@ -92,7 +98,8 @@ one_short _ _ ds (a_view name inner slots made) short more = more
 
 declarations_short : (ts : List Token) (ds : List Declaration) → AreDeclarations ts ds → AllByRecursion IsShort ts → AreShort ds
 declarations_short _ _ no_declarations short = tt
-declarations_short _ _ (more_declarations front back d ds made more) short = one_short front d ds made (front_short front back short) (declarations_short back ds more (back_short front back short))
+declarations_short _ _ (more_declarations front back d ds made more) short =
+    one_short front d ds made (front_short front back short) (declarations_short back ds more (back_short front back short))
 
 pub is_definition : (text : List ℕ) (d : List Declaration) → IsFirstForm text d → IsDefinition d
 is_definition text d f = record { named = f.named; short = declarations_short f.tokens d f.parsed (tokens_short text f.tokens f.lexed) }

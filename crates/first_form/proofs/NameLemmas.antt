@@ -12,7 +12,8 @@ list_any-map f test [] = refl
 list_any-map f test (x ∷ xs) = ap (λ b. test (f x) || b) (list_any-map f test xs)
 
 -- the names of a table after a new one
-pub keys_after : {K : Type 0} (f : K → List ℕ) (eq : K → K → Bool) (ks new : List K) (k : K) (name : List ℕ) → ((x : K) → eq k x ≡ bytes_eq (f k) (f x)) → f k ≡ name → is_among (map f ks) name ≡ false → new ≡ insert_key eq ks k
+pub keys_after : {K : Type 0} (f : K → List ℕ) (eq : K → K → Bool) (ks new : List K) (k : K) (name : List ℕ) → ((x : K) → eq k x ≡ bytes_eq (f k) (f x)) →
+    f k ≡ name → is_among (map f ks) name ≡ false → new ≡ insert_key eq ks k
     → map f new ≡ map f ks ++ name ∷ []
 keys_after f eq ks new k name same is there after =
     let gone : list_any (eq k) ks ≡ false =

@@ -1,5 +1,6 @@
 -- The parser's declarations are those of the productions.
-use Rattle.std.proofs.Common.{◌≡◌, ℕ, zero, suc, ℤ, ◌≤◌, ◌<◌, List, [], ◌∷◌, ◌++◌, length, true, Some, None, refl, sym, ap, ◌∙◌, subst, length-append, arith, inl, inr}
+use Rattle.std.proofs.Common.{◌≡◌, ℕ, zero, suc, ℤ, ◌≤◌, ◌<◌, List, [], ◌∷◌, ◌++◌, length, true, Some, None, refl, sym, ap, ◌∙◌, subst, length-append, arith}
+use Rattle.std.proofs.Common.{inl, inr}
 use Rattle.std.specs.Prelude.{Option, option_map, option_and_then, if◌then◌else◌, ◌==◌}
 use Rattle.std.proofs.lemmas.Bool.{cases_Bool}
 use Rattle.std.proofs.lemmas.Grind.{common_steps}
@@ -15,8 +16,10 @@ use Rattle.first_form.specs.declared.definition.Slot.{Slot}
 use Rattle.first_form.specs.declared.definition.Declaration.{Declaration}
 use Rattle.first_form.specs.declared.definition.Declaration.TheVariants.{State, Formula, Procedure, View}
 use Rattle.first_form.specs.Words.{same_keyword, same_symbol, keyword_rank, byte_of, symbol_of}
-use Rattle.first_form.specs.Grammar.{token_of, IsSum, one_term, more_terms, AreSlots, no_slots, more_slots, IsDeclaration, a_state, a_formula, a_procedure, a_view, AreDeclarations, no_declarations, more_declarations}
-use Rattle.first_form.specs.Parsing.{keyword_at, symbol_at, name_at, number_at, state_at, term_at, after_plus, sum_from, formula_at, signature_at, body_at, procedure_at, slot, slot_at, first_some, slots_from, view_at, declaration_for, declaration_at, declarations_from}
+use Rattle.first_form.specs.Grammar.{token_of, IsSum, one_term, more_terms, AreSlots, no_slots, more_slots, IsDeclaration, a_state, a_formula, a_procedure}
+use Rattle.first_form.specs.Grammar.{a_view, AreDeclarations, no_declarations, more_declarations}
+use Rattle.first_form.specs.Parsing.{keyword_at, symbol_at, name_at, number_at, state_at, term_at, after_plus, sum_from, formula_at, signature_at, body_at}
+use Rattle.first_form.specs.Parsing.{procedure_at, slot, slot_at, first_some, slots_from, view_at, declaration_for, declaration_at, declarations_from}
 
 -- ---- what one reader gives stands there
 
@@ -128,7 +131,8 @@ pub record Stands {A : Type 0} (P : List Token → A → Type 0) (ts : List Toke
   pub made : P front a
 
 -- what one term and a "+" behind it give
-plus_some : (n : ℕ) (ts : List Token) (t : Term × List Token) (plus : Option (List Token)) (x : List Term × List Token) → ts ≡ token_of t.0 ∷ t.1 → symbol_at symbol.Plus t.1 ≡ plus → after_plus plus (sum_from n) t ≡ Some x
+plus_some : (n : ℕ) (ts : List Token) (t : Term × List Token) (plus : Option (List Token)) (x : List Term × List Token) → ts ≡ token_of t.0 ∷ t.1 →
+    symbol_at symbol.Plus t.1 ≡ plus → after_plus plus (sum_from n) t ≡ Some x
     → ((rest : List Token) (y : List Term × List Token) → sum_from n rest ≡ Some y → Stands IsSum rest y.0 y.1) → Stands IsSum ts x.0 x.1
 plus_some n ts t None x is plus e more =
     let found : (t.0 ∷ [], t.1) ≡ x = cc in
@@ -183,7 +187,8 @@ slots_turn : (n : ℕ) (ts : List Token) (end : Option (List Token)) (x : List S
     → ((rest : List Token) (y : List Slot × List Token) → slots_from n rest ≡ Some y → Stands IsInner rest y.0 y.1) → Stands IsInner ts x.0 x.1
 slots_turn n ts (Some rest) x is e more =
     let found : ([], rest) ≡ x = cc in
-    subst (λ (y : List Slot × List Token). Stands IsInner ts y.0 y.1) found (record { front = Symbol symbol.CloseBrace ∷ []; is = symbol_some symbol.CloseBrace ts rest is; made = ([], no_slots, refl) })
+    subst (λ (y : List Slot × List Token). Stands IsInner ts y.0 y.1) found
+    (record { front = Symbol symbol.CloseBrace ∷ []; is = symbol_some symbol.CloseBrace ts rest is; made = ([], no_slots, refl) })
 slots_turn n ts None x is e more =
     let s = and_then_some (slot_at ts) (λ (s : Slot × List Token). option_map (λ (r : List Slot × List Token). (s.0 ∷ r.0, r.1)) (slots_from n s.1)) x e in
     let r = map_some (slots_from n s.0.1) (λ (r : List Slot × List Token). (s.0.0 ∷ r.0, r.1)) x s.2 in
@@ -195,7 +200,8 @@ slots_turn n ts None x is e more =
       is = at.is ∙ ap (λ l. Keyword keyword.Show ∷ Name at.name ∷ Symbol symbol.Equals ∷ Name at.column ∷ l) st.is;
       made = (
         Keyword keyword.Show ∷ Name at.name ∷ Symbol symbol.Equals ∷ Name at.column ∷ st.made.0,
-        subst (λ t. AreSlots (Keyword keyword.Show ∷ Name at.name ∷ Symbol symbol.Equals ∷ Name at.column ∷ st.made.0) (t ∷ r.0.0)) (sym at.slot_is) (more_slots at.name at.column st.made.0 r.0.0 st.made.1),
+        subst (λ t. AreSlots (Keyword keyword.Show ∷ Name at.name ∷ Symbol symbol.Equals ∷ Name at.column ∷ st.made.0) (t ∷ r.0.0)) (sym at.slot_is)
+            (more_slots at.name at.column st.made.0 r.0.0 st.made.1),
         ap (λ l. Keyword keyword.Show ∷ Name at.name ∷ Symbol symbol.Equals ∷ Name at.column ∷ l) st.made.2,
       );
     })
@@ -319,7 +325,8 @@ view_some ts x e =
     let st = slots_some (length c.0) c.0 slots.0 slots.1 in
     subst (λ (y : Declaration × List Token). Stands (BehindWord keyword.View) ts y.0 y.1) slots.2
     (record {
-      front = Name name.0.0 ∷ Symbol symbol.OpenParenthesis ∷ Symbol symbol.CloseParenthesis ∷ Symbol symbol.OpenBrace ∷ (st.made.0 ++ Symbol symbol.CloseBrace ∷ []);
+      front = Name name.0.0 ∷ Symbol symbol.OpenParenthesis ∷ Symbol symbol.CloseParenthesis ∷ Symbol
+          symbol.OpenBrace ∷ (st.made.0 ++ Symbol symbol.CloseBrace ∷ []);
       is =
           let e0 = name_some ts name.0 name.1 in
           let e1 = symbol_some symbol.OpenParenthesis name.0.1 a.0 a.1 in
@@ -329,10 +336,12 @@ view_some ts x e =
       made = a_view name.0.0 st.made.0 slots.0.0 st.made.1;
     })
 
-behind : (k : keywords.Keyword) (ts rest : List Token) (d : Declaration) (after : List Token) → keyword_at k ts ≡ Some rest → Stands (BehindWord k) rest d after → Stands IsDeclaration ts d after
+behind : (k : keywords.Keyword) (ts rest : List Token) (d : Declaration) (after : List Token) → keyword_at k ts ≡ Some rest →
+    Stands (BehindWord k) rest d after → Stands IsDeclaration ts d after
 behind k ts rest d after is st = record { front = Keyword k ∷ st.front; is = keyword_some k ts rest is ∙ ap (λ l. Keyword k ∷ l) st.is; made = st.made }
 
-declared : (ts : List Token) (x : Declaration × List Token) (a b c d : Option (List Token)) → keyword_at keyword.State ts ≡ a → keyword_at keyword.Formula ts ≡ b → keyword_at keyword.Procedure ts ≡ c → keyword_at keyword.View ts ≡ d
+declared : (ts : List Token) (x : Declaration × List Token) (a b c d : Option (List Token)) → keyword_at keyword.State ts ≡ a →
+    keyword_at keyword.Formula ts ≡ b → keyword_at keyword.Procedure ts ≡ c → keyword_at keyword.View ts ≡ d
     → declaration_for a b c d ≡ Some x → Stands IsDeclaration ts x.0 x.1
 declared ts x (Some rest) b c d p q r s e = behind keyword.State ts rest x.0 x.1 p (state_some rest x e)
 declared ts x None (Some rest) c d p q r s e = behind keyword.Formula ts rest x.0 x.1 q (formula_some rest x e)
@@ -358,7 +367,8 @@ parsed_sound (suc n) (t ∷ ts) ds e =
 
 -- ---- what is produced is read
 
-sum_read : (front : List Token) (terms : List Term) (n : ℕ) (rest : List Token) → IsSum front terms → symbol_at symbol.Plus rest ≡ None → length front ≤ n → sum_from n (front ++ rest) ≡ Some (terms, rest)
+sum_read : (front : List Token) (terms : List Term) (n : ℕ) (rest : List Token) → IsSum front terms → symbol_at symbol.Plus rest ≡ None → length front ≤ n →
+    sum_from n (front ++ rest) ≡ Some (terms, rest)
 sum_read _ _ zero rest (one_term t) none fits = absurd (omega arith)
 sum_read _ _ zero rest (more_terms t back ts more) none fits = absurd (omega arith)
 sum_read _ _ (suc n) rest (one_term t) none fits = one t
@@ -372,21 +382,25 @@ sum_read _ _ (suc n) rest (more_terms t back ts more) none fits = one t (sum_rea
     one (term.Number k) e = rw e refl
     one (term.Column name) e = rw e refl
 
-slots_read : (inner : List Token) (slots : List Slot) (n : ℕ) (rest : List Token) → AreSlots inner slots → length inner < n → slots_from n ((inner ++ Symbol symbol.CloseBrace ∷ []) ++ rest) ≡ Some (slots, rest)
+slots_read : (inner : List Token) (slots : List Slot) (n : ℕ) (rest : List Token) → AreSlots inner slots → length inner < n →
+    slots_from n ((inner ++ Symbol symbol.CloseBrace ∷ []) ++ rest) ≡ Some (slots, rest)
 unfolding slot_at
 slots_read _ _ zero rest no_slots fits = absurd (omega arith)
 slots_read _ _ zero rest (more_slots name column back ss more) fits = absurd (omega arith)
 slots_read _ _ (suc n) rest no_slots fits = refl
 slots_read _ _ (suc n) rest (more_slots name column back ss more) fits = rw (slots_read back ss n rest more (omega arith)) refl
 
-declaration_read : (front : List Token) (d : Declaration) (rest : List Token) → IsDeclaration front d → symbol_at symbol.Plus rest ≡ None → declaration_at (front ++ rest) ≡ Some (d, rest)
+declaration_read : (front : List Token) (d : Declaration) (rest : List Token) → IsDeclaration front d → symbol_at symbol.Plus rest ≡ None →
+    declaration_at (front ++ rest) ≡ Some (d, rest)
 unfolding declaration_at state_at formula_at procedure_at signature_at body_at view_at
 declaration_read _ _ rest (a_state name first) none = refl
-declaration_read _ _ rest (a_formula name back sum more) none = rw (sum_read back sum (length (back ++ rest)) rest more none (omega (arith, length-append back rest))) refl
+declaration_read _ _ rest (a_formula name back sum more) none =
+    rw (sum_read back sum (length (back ++ rest)) rest more none (omega (arith, length-append back rest))) refl
 declaration_read _ _ rest (a_procedure name parameter target value) none = refl
 declaration_read _ _ rest (a_view name inner slots more) none =
     let inside = (inner ++ Symbol symbol.CloseBrace ∷ []) ++ rest in
-    rw (slots_read inner slots (length inside) rest more (omega (arith, length-append (inner ++ Symbol symbol.CloseBrace ∷ []) rest, length-append inner (Symbol symbol.CloseBrace ∷ [])))) refl
+    rw (slots_read inner slots (length inside) rest more
+    (omega (arith, length-append (inner ++ Symbol symbol.CloseBrace ∷ []) rest, length-append inner (Symbol symbol.CloseBrace ∷ [])))) refl
 
 no_plus : (ts : List Token) (ds : List Declaration) → AreDeclarations ts ds → symbol_at symbol.Plus ts ≡ None
 no_plus _ _ no_declarations = refl
@@ -404,7 +418,8 @@ not_empty _ _ (a_formula name sum terms made) = omega arith
 not_empty _ _ (a_procedure name parameter target value) = omega arith
 not_empty _ _ (a_view name inner slots made) = omega arith
 
-one_read : (n : ℕ) (ts rest : List Token) (d : Declaration) (ds : List Declaration) → 1 ≤ length ts → declaration_at ts ≡ Some (d, rest) → declarations_from n rest ≡ Some ds → declarations_from (suc n) ts ≡ Some (d ∷ ds)
+one_read : (n : ℕ) (ts rest : List Token) (d : Declaration) (ds : List Declaration) → 1 ≤ length ts → declaration_at ts ≡ Some (d, rest) →
+    declarations_from n rest ≡ Some ds → declarations_from (suc n) ts ≡ Some (d ∷ ds)
 one_read n [] rest d ds some is more = absurd (omega arith)
 one_read n (t ∷ ts) rest d ds some is more = rw (is, more) refl
 

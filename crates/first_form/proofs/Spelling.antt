@@ -1,5 +1,6 @@
 -- The lexer's tokens are those of the text.
-use Rattle.std.proofs.Common.{◌≡◌, ℕ, ◌≤◌, List, [], ◌∷◌, ◌++◌, length, Bool, true, false, Some, None, refl, sym, ap, ◌∙◌, subst, inl, inr, append_assoc, append-nil, arith, pos}
+use Rattle.std.proofs.Common.{◌≡◌, ℕ, ◌≤◌, List, [], ◌∷◌, ◌++◌, length, Bool, true, false, Some, None, refl, sym, ap, ◌∙◌, subst, inl, inr, append_assoc}
+use Rattle.std.proofs.Common.{append-nil, arith, pos}
 use Rattle.std.specs.Prelude.{Option, option_map, option_and_then, ◌||◌, ◌&&◌, nat_le, ◌⊎◌, if◌then◌else◌}
 use Rattle.std.specs.List.{list_all}
 use Rattle.std.specs.Str.{bytes_eq}
@@ -13,12 +14,14 @@ use Rattle.first_form.specs.declared.token.Keyword.TheVariants as keyword
 use Rattle.first_form.specs.declared.token.Symbol as symbols
 use Rattle.first_form.specs.declared.token.Symbol.TheVariants as symbol
 use Rattle.first_form.specs.Words.{reserved_words, is_reserved, spelled, keyword_of, byte_of, symbol_of}
-use Rattle.first_form.specs.Tokens.{is_letter, is_digit, is_blank, is_word_byte, IsWord, IsDigits, digits_value, IsSpelled, goes_on, EndsBefore, HasTokens, nothing, blank, token}
+use Rattle.first_form.specs.Tokens.{is_letter, is_digit, is_blank, is_word_byte, IsWord, IsDigits, digits_value, IsSpelled, goes_on, EndsBefore, HasTokens}
+use Rattle.first_form.specs.Tokens.{nothing, blank, token}
 use Rattle.first_form.specs.Lexing.{has_leading_zero, number_of, name_of, keyword_or, word_of, run_token, ended_by, after_symbol, tokens_from}
 
 -- ---- keywords
 
-keyword_step : (word text : List ℕ) (k found : keywords.Keyword) (other : Option keywords.Keyword) → (text ≡ spelled k) → (other ≡ Some found → word ≡ spelled found) → (if bytes_eq word text then Some k else other) ≡ Some found → word ≡ spelled found
+keyword_step : (word text : List ℕ) (k found : keywords.Keyword) (other : Option keywords.Keyword) → (text ≡ spelled k) →
+    (other ≡ Some found → word ≡ spelled found) → (if bytes_eq word text then Some k else other) ≡ Some found → word ≡ spelled found
 keyword_step word text k found other is rest e =
     elim (cases_Bool (bytes_eq word text)) [
       | inl same ↦
@@ -106,7 +109,8 @@ along_digit c cs other = ap (λ b. list_all (λ d. if b then is_word_byte d else
 
 -- ---- the token of a run is spelled so
 
-keyword_run : (run : List ℕ) (found : Option keywords.Keyword) (t : Token) → keyword_of run ≡ found → keyword_or found (name_of run) ≡ Some t → ((k : keywords.Keyword) × (t ≡ Keyword k) × (run ≡ spelled k)) ⊎ (name_of run ≡ Some t)
+keyword_run : (run : List ℕ) (found : Option keywords.Keyword) (t : Token) → keyword_of run ≡ found → keyword_or found (name_of run) ≡ Some t →
+    ((k : keywords.Keyword) × (t ≡ Keyword k) × (run ≡ spelled k)) ⊎ (name_of run ≡ Some t)
 keyword_run run (Some k) t is e = inl (k, cc, keyword_spelled run k is)
 keyword_run run None t is e = inr e
 
@@ -125,13 +129,15 @@ digits_run : (c : ℕ) (cs : List ℕ) → is_digit c ≡ true → list_all is_d
 digits_run c [] first more zero = first
 digits_run c (d ∷ ds) first more zero = (first, zero, more)
 
-numbered_run : (run : List ℕ) (t : Token) → number_of run ≡ Some t → (has_leading_zero run ≡ false) × (t ≡ Number (pos (digits_value 0 run))) × (digits_value 0 run ≤ 9223372036854775807)
+numbered_run : (run : List ℕ) (t : Token) → number_of run ≡ Some t →
+    (has_leading_zero run ≡ false) × (t ≡ Number (pos (digits_value 0 run))) × (digits_value 0 run ≤ 9223372036854775807)
 numbered_run run t e =
     elim (cases_Bool (has_leading_zero run)) [
       | inl zero ↦ let wrong : None ≡ Some t = sym (rw zero refl) ∙ e in cc
       | inr other ↦
           elim (cases_Bool (nat_le (digits_value 0 run) 9223372036854775807)) [
-            | inl fits ↦ let is : Some (Number (pos (digits_value 0 run))) ≡ Some t = sym (rw (other, fits) refl) ∙ e in (other, cc, leb-true (digits_value 0 run) 9223372036854775807 fits)
+            | inl fits ↦ let is : Some (Number (pos (digits_value 0 run))) ≡ Some t = sym (rw (other, fits) refl) ∙ e in
+                (other, cc, leb-true (digits_value 0 run) 9223372036854775807 fits)
             | inr wide ↦ let wrong : None ≡ Some t = sym (rw (other, wide) refl) ∙ e in cc
           ]
     ]
@@ -147,7 +153,11 @@ word_spelled c cs t run letter e =
       | inl k ↦ subst (IsTokenOf c cs) (sym k.1) (record { spelled_so = k.2; same = λ d. rw letter refl })
       | inr named ↦
           let n = named_run (c ∷ cs) t named in
-          subst (IsTokenOf c cs) (sym n.0) (record { spelled_so = (refl, (letter, sym (along_letter c cs letter) ∙ run.along, n.1), n.2); same = λ d. rw letter refl })
+          subst (IsTokenOf c cs) (sym n.0) (record {
+            spelled_so = (refl, (letter, sym (along_letter c cs letter) ∙ run.along, n.1), n.2);
+            same =
+                λ d. rw letter refl;
+          })
     ]
 
 number_spelled : (c : ℕ) (cs : List ℕ) (t : Token) → IsRun c cs → is_letter c ≡ false → number_of (c ∷ cs) ≡ Some t → IsTokenOf c cs t
@@ -165,13 +175,16 @@ run_spelled c cs t run e =
 
 -- ---- what the lexer reads is there
 
-ended_some : (c : ℕ) (cs : List ℕ) (found : Option Token) (more : Option (List Token)) (ts : List Token) → option_and_then (λ t. option_map (λ us. t ∷ us) more) found ≡ Some ts → (t : Token) × (us : List Token) × (found ≡ Some t) × (more ≡ Some us) × (ts ≡ t ∷ us)
+ended_some : (c : ℕ) (cs : List ℕ) (found : Option Token) (more : Option (List Token)) (ts : List Token) →
+    option_and_then (λ t. option_map (λ us. t ∷ us) more) found ≡ Some ts →
+    (t : Token) × (us : List Token) × (found ≡ Some t) × (more ≡ Some us) × (ts ≡ t ∷ us)
 ended_some c cs None more ts e = cc
 ended_some c cs (Some t) None ts e = cc
 ended_some c cs (Some t) (Some us) ts e = (t, us, refl, refl, cc)
 
 -- a run that ends before this text
-run_ends : (c : ℕ) (cs text : List ℕ) (more : Option (List Token)) (ts : List Token) → IsRun c cs → (text ≡ [] → more ≡ Some []) → ((us : List Token) → more ≡ Some us → HasTokens text us)
+run_ends : (c : ℕ) (cs text : List ℕ) (more : Option (List Token)) (ts : List Token) → IsRun c cs → (text ≡ [] → more ≡ Some []) →
+    ((us : List Token) → more ≡ Some us → HasTokens text us)
     → ((t : Token) → ((d : ℕ) → goes_on t d ≡ goes c d) → EndsBefore t text) → ended_by (c ∷ cs) more ≡ Some ts → HasTokens ((c ∷ cs) ++ text) ts
 run_ends c cs text more ts run none after ends e =
     let x = ended_some c cs (run_token (c ∷ cs)) more ts e in
@@ -185,7 +198,8 @@ record IsSound (text : List ℕ) : Type 0 where
 symbol_byte : (c : ℕ) (s : symbols.Symbol) → symbol_of c ≡ Some s → c ∷ [] ≡ byte_of s ∷ []
 symbol_byte c s e = ap (λ b. b ∷ []) (grind (arith, common_steps))
 
-symbol_first : (c : ℕ) (text : List ℕ) (found : Option symbols.Symbol) (more : Option (List Token)) (ts : List Token) → symbol_of c ≡ found → ((us : List Token) → more ≡ Some us → HasTokens text us) → after_symbol found more ≡ Some ts → HasTokens (c ∷ text) ts
+symbol_first : (c : ℕ) (text : List ℕ) (found : Option symbols.Symbol) (more : Option (List Token)) (ts : List Token) → symbol_of c ≡ found →
+    ((us : List Token) → more ≡ Some us → HasTokens text us) → after_symbol found more ≡ Some ts → HasTokens (c ∷ text) ts
 symbol_first c text None more ts is after e = cc
 symbol_first c text (Some s) None ts is after e = cc
 symbol_first c text (Some s) (Some us) ts is after e =
@@ -211,7 +225,8 @@ along_push : (c : ℕ) (cs : List ℕ) (d : ℕ) → list_all (goes c) cs ≡ tr
 along_push c [] d along more = rw more refl
 along_push c (b ∷ bs) d along more = let parts = split_and (goes c b) (list_all (goes c) bs) along in rw (parts.0, along_push c bs d parts.1 more) refl
 
-after_step : (d : ℕ) (text : List ℕ) → ((ts : List Token) → tokens_from [] (d ∷ text) ≡ Some ts → HasTokens (d ∷ text) ts) → IsSound text → (c : ℕ) (cs : List ℕ) (ts : List Token) → IsRun c cs → tokens_from (c ∷ cs) (d ∷ text) ≡ Some ts → HasTokens ((c ∷ cs) ++ d ∷ text) ts
+after_step : (d : ℕ) (text : List ℕ) → ((ts : List Token) → tokens_from [] (d ∷ text) ≡ Some ts → HasTokens (d ∷ text) ts) → IsSound text →
+    (c : ℕ) (cs : List ℕ) (ts : List Token) → IsRun c cs → tokens_from (c ∷ cs) (d ∷ text) ≡ Some ts → HasTokens ((c ∷ cs) ++ d ∷ text) ts
 after_step d text fresh sound c cs ts run e =
     elim (cases_Bool (goes c d)) [
       | inl on ↦
@@ -224,7 +239,8 @@ after_step d text fresh sound c cs ts run e =
 sound : (text : List ℕ) → IsSound text
 sound [] = record {
   fresh = λ ts e. let none : ts ≡ [] = cc in subst (HasTokens []) (sym none) nothing;
-  after = λ c cs ts run e. run_ends c cs [] (Some []) ts run (λ _. refl) (λ us is. let none : us ≡ [] = cc in subst (HasTokens []) (sym none) nothing) (λ t same. tt) e;
+  after = λ c cs ts run e. run_ends c cs [] (Some []) ts run (λ _. refl) (λ us is. let none : us ≡ [] = cc in subst (HasTokens []) (sym none) nothing)
+      (λ t same. tt) e;
 }
 sound (d ∷ text) =
     let more = sound text in
@@ -249,11 +265,13 @@ run_on c cs (d ∷ ds) text along =
     let parts = split_and (goes c d) (list_all (goes c) ds) along in
     rw parts.0 (run_on c (cs ++ d ∷ []) ds text parts.1 ∙ ap (λ l. tokens_from (c ∷ l) text) (append_assoc cs (d ∷ []) ds))
 
-run_over : (c : ℕ) (cs text : List ℕ) (t : Token) → ((d : ℕ) → goes c d ≡ goes_on t d) → EndsBefore t text → tokens_from (c ∷ cs) text ≡ ended_by (c ∷ cs) (tokens_from [] text)
+run_over : (c : ℕ) (cs text : List ℕ) (t : Token) → ((d : ℕ) → goes c d ≡ goes_on t d) → EndsBefore t text →
+    tokens_from (c ∷ cs) text ≡ ended_by (c ∷ cs) (tokens_from [] text)
 run_over c cs [] t same ends = refl
 run_over c cs (d ∷ text) t same ends = rw (same d ∙ ends) refl
 
-run_read : (c : ℕ) (cs text : List ℕ) (t : Token) (ts : List Token) → IsRunOf c cs t → EndsBefore t text → tokens_from [] text ≡ Some ts → tokens_from [] ((c ∷ cs) ++ text) ≡ Some (t ∷ ts)
+run_read : (c : ℕ) (cs text : List ℕ) (t : Token) (ts : List Token) → IsRunOf c cs t → EndsBefore t text → tokens_from [] text ≡ Some ts →
+    tokens_from [] ((c ∷ cs) ++ text) ≡ Some (t ∷ ts)
 run_read c cs text t ts r ends more =
     run_starts c (cs ++ text) r.run.starts ∙ run_on c [] cs text r.run.along ∙ run_over c cs text t r.same ends ∙ rw (more, r.token) refl
 
@@ -262,11 +280,17 @@ abbrev IsLetters : List ℕ → Type 0
 IsLetters [] = ⊥
 IsLetters (c ∷ cs) = (is_letter c ≡ true) × (list_all is_word_byte cs ≡ true)
 
-word_read : (word text : List ℕ) (t : Token) (ts : List Token) → IsLetters word → word_of word ≡ Some t → ((d : ℕ) → is_word_byte d ≡ goes_on t d) → EndsBefore t text → tokens_from [] text ≡ Some ts → tokens_from [] (word ++ text) ≡ Some (t ∷ ts)
+word_read : (word text : List ℕ) (t : Token) (ts : List Token) → IsLetters word → word_of word ≡ Some t → ((d : ℕ) → is_word_byte d ≡ goes_on t d) →
+    EndsBefore t text → tokens_from [] text ≡ Some ts → tokens_from [] (word ++ text) ≡ Some (t ∷ ts)
 word_read [] text t ts letters is same ends more = absurd letters
 word_read (c ∷ cs) text t ts letters is same ends more =
     run_read c cs text t ts
-    (record { run = record { starts = rw letters.0 refl; along = along_letter c cs letters.0 ∙ letters.1 }; token = rw letters.0 is; same = λ d. rw letters.0 (same d) })
+    (record {
+      run = record { starts = rw letters.0 refl; along = along_letter c cs letters.0 ∙ letters.1 };
+      token = rw letters.0 is;
+      same =
+          λ d. rw letters.0 (same d);
+    })
     ends more
 
 keyword_letters : (k : keywords.Keyword) → IsLetters (spelled k)
@@ -289,7 +313,8 @@ word_letters : (word : List ℕ) → IsWord word → IsLetters word × (length w
 word_letters [] h = absurd h
 word_letters (c ∷ cs) h = ((h.0, h.1), h.2)
 
-digits_token : (c : ℕ) (cs : List ℕ) → has_leading_zero (c ∷ cs) ≡ false → digits_value 0 (c ∷ cs) ≤ 9223372036854775807 → number_of (c ∷ cs) ≡ Some (Number (pos (digits_value 0 (c ∷ cs))))
+digits_token : (c : ℕ) (cs : List ℕ) → has_leading_zero (c ∷ cs) ≡ false → digits_value 0 (c ∷ cs) ≤ 9223372036854775807 →
+    number_of (c ∷ cs) ≡ Some (Number (pos (digits_value 0 (c ∷ cs))))
 digits_token c cs zero fits = rw (zero, le_true (digits_value 0 (c ∷ cs)) 9223372036854775807 fits) refl
 
 digit_is : (c : ℕ) → is_digit c ≡ true → is_letter c ≡ false
@@ -299,15 +324,23 @@ or_right : (a b : Bool) → b ≡ true → (a || b) ≡ true
 or_right true b e = refl
 or_right false b e = e
 
-digits_read : (c : ℕ) (cs text : List ℕ) (ts : List Token) → is_digit c ≡ true → list_all is_digit cs ≡ true → has_leading_zero (c ∷ cs) ≡ false → digits_value 0 (c ∷ cs) ≤ 9223372036854775807 → EndsBefore (Number (pos (digits_value 0 (c ∷ cs)))) text → tokens_from [] text ≡ Some ts
+digits_read : (c : ℕ) (cs text : List ℕ) (ts : List Token) → is_digit c ≡ true → list_all is_digit cs ≡ true → has_leading_zero (c ∷ cs) ≡ false →
+    digits_value 0 (c ∷ cs) ≤ 9223372036854775807 → EndsBefore (Number (pos (digits_value 0 (c ∷ cs)))) text → tokens_from [] text ≡ Some ts
     → tokens_from [] ((c ∷ cs) ++ text) ≡ Some (Number (pos (digits_value 0 (c ∷ cs))) ∷ ts)
 digits_read c cs text ts first all zero fits ends more =
     let other = digit_is c first in
     run_read c cs text (Number (pos (digits_value 0 (c ∷ cs)))) ts
-    (record { run = record { starts = or_right (is_letter c) (is_digit c) first; along = along_digit c cs other ∙ all }; token = rw other (digits_token c cs zero fits); same = λ d. rw other refl })
+    (record {
+      run = record { starts = or_right (is_letter c) (is_digit c) first; along = along_digit c cs other ∙ all };
+      token =
+          rw other (digits_token c cs zero fits);
+      same = λ d. rw other refl;
+    })
     ends more
 
-number_read : (front text : List ℕ) (ts : List Token) → IsDigits front → digits_value 0 front ≤ 9223372036854775807 → EndsBefore (Number (pos (digits_value 0 front))) text → tokens_from [] text ≡ Some ts → tokens_from [] (front ++ text) ≡ Some (Number (pos (digits_value 0 front)) ∷ ts)
+number_read : (front text : List ℕ) (ts : List Token) → IsDigits front → digits_value 0 front ≤ 9223372036854775807 →
+    EndsBefore (Number (pos (digits_value 0 front))) text → tokens_from [] text ≡ Some ts →
+    tokens_from [] (front ++ text) ≡ Some (Number (pos (digits_value 0 front)) ∷ ts)
 number_read [] text ts digits fits ends more = absurd digits
 number_read (c ∷ []) text ts digits fits ends more = digits_read c [] text ts digits refl refl fits ends more
 number_read (c ∷ d ∷ ds) text ts digits fits ends more = digits_read c (d ∷ ds) text ts digits.0 digits.2 digits.1 fits ends more
@@ -321,7 +354,8 @@ symbol_read symbol.CloseParenthesis text = refl
 symbol_read symbol.OpenBrace text = refl
 symbol_read symbol.CloseBrace text = refl
 
-token_read : (front text : List ℕ) (t : Token) (ts : List Token) → IsSpelled front t → EndsBefore t text → tokens_from [] text ≡ Some ts → tokens_from [] (front ++ text) ≡ Some (t ∷ ts)
+token_read : (front text : List ℕ) (t : Token) (ts : List Token) → IsSpelled front t → EndsBefore t text → tokens_from [] text ≡ Some ts →
+    tokens_from [] (front ++ text) ≡ Some (t ∷ ts)
 token_read front text (Keyword k) ts is ends more =
     ap (λ l. tokens_from [] (l ++ text)) is
     ∙ word_read (spelled k) text (Keyword k) ts (keyword_letters k) (ap (λ o. keyword_or o (name_of (spelled k))) (keyword_of-spelled k)) (λ d. refl) ends more
@@ -329,7 +363,8 @@ token_read front text (Name name) ts is ends more =
     let word = word_letters name is.1 in
     ap (λ l. tokens_from [] (l ++ text)) is.0 ∙ word_read name text (Name name) ts word.0 (name_word name word.1 is.2) (λ d. refl) ends more
 token_read front text (Number n) ts is ends more =
-    subst (λ m. tokens_from [] (front ++ text) ≡ Some (Number m ∷ ts)) (sym is.1) (number_read front text ts is.0 is.2 (subst (λ m. EndsBefore (Number m) text) is.1 ends) more)
+    subst (λ m. tokens_from [] (front ++ text) ≡ Some (Number m ∷ ts)) (sym is.1)
+    (number_read front text ts is.0 is.2 (subst (λ m. EndsBefore (Number m) text) is.1 ends) more)
 token_read front text (Symbol s) ts is ends more = ap (λ l. tokens_from [] (l ++ text)) is ∙ symbol_read s text ∙ ap (after_symbol (Some s)) more
 
 -- the tokens of a text are those that the lexer gives

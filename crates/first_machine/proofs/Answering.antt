@@ -1,5 +1,6 @@
 -- Replies, pages and what they change.
-use Rattle.std.proofs.Common.{◌≡◌, refl, sym, ap, ◌∙◌, subst, inl, inr, ℕ, ℤ, zero, suc, ◌+◌, ◌<◌, ◌≤◌, true, Some, None, Ok, Err, List, [], ◌∷◌, ◌++◌, length, map, set, length-append, arith}
+use Rattle.std.proofs.Common.{◌≡◌, refl, sym, ap, ◌∙◌, subst, inl, inr, ℕ, ℤ, zero, suc, ◌+◌, ◌<◌, ◌≤◌, true, Some, None, Ok, Err, List, [], ◌∷◌, ◌++◌, length}
+use Rattle.std.proofs.Common.{map, set, length-append, arith}
 use Rattle.std.specs.Prelude.{Result, All, IfOk, ◌==◌}
 use Rattle.std.specs.List.{AllByRecursion, filter_map}
 use Rattle.std.proofs.lemmas.Bool.{cases_Bool}
@@ -50,7 +51,8 @@ put_is_set (d ∷ ds) (y ∷ ys) name z same =
     ]
 
 -- the parts of a page are those of the meaning
-pub parts_mean : (m : Machine) → IsWellNamed m.book → length m.stored ≡ length m.book → (slots : List Slot) → map (part_in (work [] m.book m.stored)) slots ≡ map (part_of m) slots
+pub parts_mean : (m : Machine) → IsWellNamed m.book → length m.stored ≡ length m.book → (slots : List Slot) →
+    map (part_in (work [] m.book m.stored)) slots ≡ map (part_of m) slots
 parts_mean m well same [] = refl
 parts_mean m well same (s ∷ ss) =
     ap (λ r. Show s.name (shown r) ∷ map (part_in (work [] m.book m.stored)) ss) (work_means m well same s.column)
@@ -69,21 +71,28 @@ shown_within : (count : ℕ) (r : Result ℤ Fault) → HasFault (IsFaultWithin 
 shown_within count (Ok z) x = tt
 shown_within count (Err e) x = x
 
-work_within : (count : ℕ) (cells : Cells) (ds : List Declaration) (zs : List ℤ) → AreWithin count cells → length cells + length (columns ds) < count → AreWithin count (work cells ds zs)
+work_within : (count : ℕ) (cells : Cells) (ds : List Declaration) (zs : List ℤ) → AreWithin count cells → length cells + length (columns ds) < count →
+    AreWithin count (work cells ds zs)
 work_within count cells [] zs cells_in few = cells_in
 work_within count cells (d ∷ ds) [] cells_in few = cells_in
 work_within count cells (State n first ∷ ds) (z ∷ zs) cells_in few =
-    work_within count (cells ++ (n, Ok z) ∷ []) ds zs (push_has (IsFaultWithin count) cells (n, Ok z) cells_in tt) (omega (arith, length-append cells ((n, Ok z) ∷ []), few))
+    work_within count (cells ++ (n, Ok z) ∷ []) ds zs (push_has (IsFaultWithin count) cells (n, Ok z) cells_in tt)
+    (omega (arith, length-append cells ((n, Ok z) ∷ []), few))
 work_within count cells (Formula n sum ∷ ds) (z ∷ zs) cells_in few =
     let v = settled (sum_outcome (value_in cells) (Cell 0 (length cells + 1)) sum) in
-    let v_in = settled_within count (sum_outcome (value_in cells) (Cell 0 (length cells + 1)) sum) (sum_has (IsFaultWithin count) (value_in cells) (Cell 0 (length cells + 1)) (value_has (IsFaultWithin count) cells cells_in) (omega (arith, few)) sum) in
-    work_within count (cells ++ (n, v) ∷ []) ds zs (push_has (IsFaultWithin count) cells (n, v) cells_in v_in) (omega (arith, length-append cells ((n, v) ∷ []), few))
+    let v_in = settled_within count (sum_outcome (value_in cells) (Cell 0 (length cells + 1)) sum)
+    (sum_has (IsFaultWithin count) (value_in cells) (Cell 0 (length cells + 1)) (value_has (IsFaultWithin count) cells cells_in) (omega (arith, few)) sum)
+    in
+    work_within count (cells ++ (n, v) ∷ []) ds zs (push_has (IsFaultWithin count) cells (n, v) cells_in v_in)
+    (omega (arith, length-append cells ((n, v) ∷ []), few))
 work_within count cells (Procedure n parameter target value ∷ ds) (z ∷ zs) cells_in few = work_within count cells ds zs cells_in few
 work_within count cells (View n slots ∷ ds) (z ∷ zs) cells_in few = work_within count cells ds zs cells_in few
 
 page_within : (count : ℕ) (cells : Cells) (slots : List Slot) → AreWithin count cells → All (IsPartWithin count) (map (part_in cells) slots)
 page_within count cells [] cells_in k d within = absurd (omega (arith, within))
-page_within count cells (s ∷ ss) cells_in zero d within = shown_within count (settled (value_in cells s.column)) (settled_within count (value_in cells s.column) (value_has (IsFaultWithin count) cells cells_in s.column))
+page_within count cells (s ∷ ss) cells_in zero d within =
+    shown_within count (settled (value_in cells s.column))
+    (settled_within count (value_in cells s.column) (value_has (IsFaultWithin count) cells cells_in s.column))
 page_within count cells (s ∷ ss) cells_in (suc k) d within = page_within count cells ss cells_in k d (omega (arith, within))
 
 nodes_count : (ds : List Declaration) → length (filter_map node_of ds) ≡ length (columns ds)
@@ -93,7 +102,8 @@ nodes_count (Formula name sum ∷ ds) = ap suc (nodes_count ds)
 nodes_count (Procedure name parameter target value ∷ ds) = nodes_count ds
 nodes_count (View name slots ∷ ds) = nodes_count ds
 
-pub parts_within : (m : Machine) (book : List Declaration) (stored : List ℤ) (slots : List Slot) (page : List Part) → book ≡ m.book → page ≡ map (part_in (work [] book stored)) slots → All (IsPartWithin (length (tree m.book))) page
+pub parts_within : (m : Machine) (book : List Declaration) (stored : List ℤ) (slots : List Slot) (page : List Part) → book ≡ m.book →
+    page ≡ map (part_in (work [] book stored)) slots → All (IsPartWithin (length (tree m.book))) page
 parts_within m book stored slots page is parts =
     subst (λ (b : List Declaration). All (IsPartWithin (length (tree b))) page) is
     (subst (λ l. All (IsPartWithin (length (tree book))) l) (sym parts)
@@ -107,17 +117,21 @@ equal_numbers a b e = grind (arith, common_steps)
 same_numbers : (a b : ℕ) → a ≡ b → (a == b) ≡ true
 same_numbers a b e = grind (arith, common_steps)
 
-pub page_answers : (m : Machine) (book : List Declaration) (stored : List ℤ) (name : List ℕ) (arguments : List Value) (slots : List Slot) (page : List Part) → book ≡ m.book → stored ≡ m.stored → IsWellNamed book → length stored ≡ length book
-    → (length arguments == 0) ≡ true → Some slots ≡ slots_in book name → page ≡ map (part_in (work [] book stored)) slots → looked m name arguments ≡ (Page page, m)
+pub page_answers : (m : Machine) (book : List Declaration) (stored : List ℤ) (name : List ℕ) (arguments : List Value) (slots : List Slot) (page : List Part) →
+    book ≡ m.book → stored ≡ m.stored → IsWellNamed book → length stored ≡ length book
+    → (length arguments == 0) ≡ true → Some slots ≡ slots_in book name → page ≡ map (part_in (work [] book stored)) slots →
+    looked m name arguments ≡ (Page page, m)
 page_answers m book stored name (v ∷ vs) slots page b z well same none found parts = let e = equal_numbers (length (v ∷ vs)) 0 none in absurd (omega (arith, e))
 page_answers m book stored name [] slots page b z well same none found parts =
     let well' = subst IsWellNamed b well in
     let same' : length m.stored ≡ length m.book = sym (ap length z) ∙ same ∙ ap length b in
     let found' : slots_in m.book name ≡ Some slots = ap (λ l. slots_in l name) (sym b) ∙ sym found in
-    let parts' : page ≡ map (part_of m) slots = parts ∙ ap (λ l. map (part_in (work [] l stored)) slots) b ∙ ap (λ l. map (part_in (work [] m.book l)) slots) z ∙ parts_mean m well' same' slots in
+    let parts' : page ≡ map (part_of m) slots = parts ∙ ap (λ l. map (part_in (work [] l stored)) slots) b ∙ ap (λ l. map (part_in (work [] m.book l)) slots) z
+    ∙ parts_mean m well' same' slots in
     ap (viewed m) found' ∙ ap (λ l. (Page l, m)) (sym parts')
 
-pub call_answers : (m : Machine) (book : List Declaration) (stored : List ℤ) (name : List ℕ) (n : ℕ) (z : ℤ) (target : List ℕ) (place : ℕ) (empty : List Value) → book ≡ m.book → stored ≡ m.stored → length stored ≡ length book
+pub call_answers : (m : Machine) (book : List Declaration) (stored : List ℤ) (name : List ℕ) (n : ℕ) (z : ℤ) (target : List ℕ) (place : ℕ)
+    (empty : List Value) → book ≡ m.book → stored ≡ m.stored → length stored ≡ length book
     → n ≡ m.last + 1 → Some target ≡ target_in book name → place ≡ place_in book target → empty ≡ []
     → called m name n (Some z) ≡ (Accepted n (Values empty), record { book = m.book; stored = set m.stored place z; last = n })
 call_answers m book stored name n z target place empty b s same number found place_is none =
@@ -131,11 +145,13 @@ call_answers m book stored name n z target place empty b s same number found pla
     ∙ ap (λ l. (Accepted n (Values empty), record { book = m.book; stored = l; last = n })) put)
 
 -- what is judged later form, of a line that is too long or that is no request
-pub later_judged : (m : Machine) (line : List ℕ) (reply : Reply) (change : Change) → Act m line (later m) → reply ≡ Wire wire.LaterForm → change ≡ Nothing → Judges m line reply change
+pub later_judged : (m : Machine) (line : List ℕ) (reply : Reply) (change : Change) → Act m line (later m) → reply ≡ Wire wire.LaterForm → change ≡ Nothing →
+    Judges m line reply change
 later_judged m line reply change act r c =
     subst (λ (x : Change). Judges m line reply x) (sym c) (subst (λ (x : Reply). Judges m line x Nothing) (sym r) act)
 
-pub request_judged : {E : Type 0} (m : Machine) (line : List ℕ) (read : Request) (d : Data) (result : Result (Reply × Change) E) → length line ≤ 65536 → Reads line d → line_request d ≡ Some read
+pub request_judged : {E : Type 0} (m : Machine) (line : List ℕ) (read : Request) (d : Data) (result : Result (Reply × Change) E) → length line ≤ 65536 →
+    Reads line d → line_request d ≡ Some read
     → IfOk result (λ r. Answers m (acted m read) r.0 r.1) → IfOk result (λ r. Judges m line r.0 r.1)
 request_judged m line read d (Err e) short reads is answers = tt
 request_judged m line read d (Ok r) short reads is answers = subst (Act m line) (ap (for_request m) is ∙ answers) (request d short reads)

@@ -53,4 +53,5 @@ module _ (P : Fault → Type 0) where
 
   pub value_has : (cells : Cells) → CellsHave cells → (name : List ℕ) → OutcomeHas P (value_in cells name)
   value_has [] all name = tt
-  value_has (c ∷ cs) all name = elim (bytes_eq name c.0) as (λ same. OutcomeHas P (if same then Some c.1 else value_in cs name)) [ true ↦ all.0 | false ↦ value_has cs all.1 name ]
+  value_has (c ∷ cs) all name =
+      elim (bytes_eq name c.0) as (λ same. OutcomeHas P (if same then Some c.1 else value_in cs name)) [ true ↦ all.0 | false ↦ value_has cs all.1 name ]

@@ -1,5 +1,6 @@
 -- One pass in order gives each column its meaning.
-use Rattle.std.proofs.Common.{append_assoc, append-nil, ◌≡◌, refl, sym, ap, ◌∙◌, subst, inl, inr, ℕ, ℤ, zero, suc, ◌+◌, ◌≤◌, Bool, true, false, not, Some, None, Ok, Err, List, [], ◌∷◌, ◌++◌, length, map, length-append, arith}
+use Rattle.std.proofs.Common.{append_assoc, append-nil, ◌≡◌, refl, sym, ap, ◌∙◌, subst, inl, inr, ℕ, ℤ, zero, suc, ◌+◌, ◌≤◌, Bool, true, false, not, Some, None}
+use Rattle.std.proofs.Common.{Ok, Err, List, [], ◌∷◌, ◌++◌, length, map, length-append, arith}
 use Rattle.std.specs.Prelude.{Option, Result, is_some, option_and_then, ◌⊎◌, ◌&&◌}
 use Rattle.std.specs.Str.{bytes_eq}
 use Rattle.std.specs.List.{list_all, IsDistinct}
@@ -19,7 +20,8 @@ use Rattle.first_form.specs.Names.{is_among, is_known_term, NamesDiffer, column_
 use Rattle.first_form.specs.Naming.{columns_fit}
 use Rattle.first_form.proofs.Choosing.{split_and, fit_complete, differ_complete}
 use Rattle.first_machine.specs.Workbook.{Machine, stored_in, sum_in, number_from}
-use Rattle.first_machine.specs.Rounds.{Outcome, sum_of, added, term_outcome, sum_from, sum_outcome, stored_or, column_over, place_of, table, formula_count, settled, meaning}
+use Rattle.first_machine.specs.Rounds.{Outcome, sum_of, added, term_outcome, sum_from, sum_outcome, stored_or, column_over, place_of, table, formula_count}
+use Rattle.first_machine.specs.Rounds.{settled, meaning}
 use Rattle.first_machine.specs.Laws.{IsNoCycle, IsSettled, ColumnsSettle}
 use Rattle.first_machine.proofs.Faults.{HasFault, OutcomeHas, CellsHave, sum_has, push_has, value_has}
 use Rattle.first_machine.specs.Working.{Cells, value_in, work}
@@ -41,7 +43,8 @@ module _ (f g : List ℕ → Outcome) (p : Place) (seen : List (List ℕ)) (agre
   term_known (term.Number n) e = (Ok n, refl, refl)
   term_known (term.Column name) e = agree name e
 
-  from_known : (a : Result ℤ Fault) (ts : List Term) → list_all (is_known_term seen) ts ≡ true → (r : Result ℤ Fault) × (sum_from f p (Some a) ts ≡ Some r) × (sum_from g p (Some a) ts ≡ Some r)
+  from_known : (a : Result ℤ Fault) (ts : List Term) → list_all (is_known_term seen) ts ≡ true →
+      (r : Result ℤ Fault) × (sum_from f p (Some a) ts ≡ Some r) × (sum_from g p (Some a) ts ≡ Some r)
   from_known a [] e = (a, refl, refl)
   from_known a (t ∷ ts) e =
       let parts = split_and (is_known_term seen t) (list_all (is_known_term seen) ts) e in
@@ -91,7 +94,8 @@ pub record IsPushed (cells : Cells) (n : List ℕ) (v : Result ℤ Fault) (name 
   pub same : bytes_eq name n ≡ true
   pub is : r ≡ v
 
-pub pushed : (cells : Cells) (n : List ℕ) (v : Result ℤ Fault) (name : List ℕ) (r : Result ℤ Fault) → value_in (cells ++ (n, v) ∷ []) name ≡ Some r → (value_in cells name ≡ Some r) ⊎ IsPushed cells n v name r
+pub pushed : (cells : Cells) (n : List ℕ) (v : Result ℤ Fault) (name : List ℕ) (r : Result ℤ Fault) → value_in (cells ++ (n, v) ∷ []) name ≡ Some r →
+    (value_in cells name ≡ Some r) ⊎ IsPushed cells n v name r
 pushed [] n v name r e =
     elim (cases_Bool (bytes_eq name n)) [
       | inl same ↦ let is : Some v ≡ Some r = sym (rw same refl) ∙ e in inr (record { before = refl; same = same; is = cc })
@@ -108,7 +112,8 @@ pushed (c ∷ cs) n v name r e =
     ]
 
 -- a name that isn't there after one more cell
-fresh_before : (cells : Cells) (n : List ℕ) (v : Result ℤ Fault) (name : List ℕ) → value_in (cells ++ (n, v) ∷ []) name ≡ None → (value_in cells name ≡ None) × (bytes_eq name n ≡ false)
+fresh_before : (cells : Cells) (n : List ℕ) (v : Result ℤ Fault) (name : List ℕ) → value_in (cells ++ (n, v) ∷ []) name ≡ None →
+    (value_in cells name ≡ None) × (bytes_eq name n ≡ false)
 fresh_before [] n v name e =
     elim (cases_Bool (bytes_eq name n)) [
       | inl same ↦ let wrong : Some v ≡ None = sym (rw same refl) ∙ e in cc
@@ -141,7 +146,8 @@ others seen n name there fresh =
       | inr other ↦ other
     ]
 
-not_stored : (seen : List (List ℕ)) (ds : List Declaration) (zs : List ℤ) (name : List ℕ) → columns_fit seen ds ≡ true → is_among seen name ≡ true → stored_in ds zs name ≡ None
+not_stored : (seen : List (List ℕ)) (ds : List Declaration) (zs : List ℤ) (name : List ℕ) → columns_fit seen ds ≡ true → is_among seen name ≡ true →
+    stored_in ds zs name ≡ None
 not_stored seen [] zs name fit there = refl
 not_stored seen (d ∷ ds) [] name fit there = refl
 not_stored seen (State n first ∷ ds) (z ∷ zs) name fit there =
@@ -173,7 +179,8 @@ no_outcome : (m : Machine) (n : ℕ) (name : List ℕ) → sum_in m.book name �
 no_outcome m zero name none = refl
 no_outcome m (suc k) name none = ap (option_and_then (sum_outcome (column_over m (table m k)) (place_of m name))) none
 
-at_end : (m : Machine) (k : ℕ) (cells : Cells) (name : List ℕ) (o : Outcome) → Pass m k cells [] [] → value_in cells name ≡ o → settled (value_in cells name) ≡ meaning m name
+at_end : (m : Machine) (k : ℕ) (cells : Cells) (name : List ℕ) (o : Outcome) → Pass m k cells [] [] → value_in cells name ≡ o →
+    settled (value_in cells name) ≡ meaning m name
 at_end m k cells name (Some r) pass is =
     let within : k ≤ formula_count m.book = omega (arith, pass.count) in
     ap settled (is ∙ sym (pass.known (formula_count m.book) within name r is))
@@ -181,10 +188,12 @@ at_end m k cells name None pass is =
     let goes = pass.goes name is in
     ap settled (is ∙ sym (ap (λ o. stored_or o (table m (formula_count m.book) name)) goes.stored ∙ no_outcome m (formula_count m.book) name goes.sum))
 
-pushed_names : (cells : Cells) (n : List ℕ) (v : Result ℤ Fault) (ds : List Declaration) → columns_fit (names_of cells ++ n ∷ []) ds ≡ true → columns_fit (names_of (cells ++ (n, v) ∷ [])) ds ≡ true
+pushed_names : (cells : Cells) (n : List ℕ) (v : Result ℤ Fault) (ds : List Declaration) → columns_fit (names_of cells ++ n ∷ []) ds ≡ true →
+    columns_fit (names_of (cells ++ (n, v) ∷ [])) ds ≡ true
 pushed_names cells n v ds e = subst (λ seen. columns_fit seen ds ≡ true) (sym (map-append (λ c. c.0) cells ((n, v) ∷ []))) e
 
-next_number : (cells : Cells) (n : List ℕ) (v : Result ℤ Fault) (ns : List (List ℕ)) (name : List ℕ) → bytes_eq name n ≡ false → number_from (length cells + 1) (n ∷ ns) name ≡ number_from (length (cells ++ (n, v) ∷ []) + 1) ns name
+next_number : (cells : Cells) (n : List ℕ) (v : Result ℤ Fault) (ns : List (List ℕ)) (name : List ℕ) → bytes_eq name n ≡ false →
+    number_from (length cells + 1) (n ∷ ns) name ≡ number_from (length (cells ++ (n, v) ∷ []) + 1) ns name
 next_number cells n v ns name other =
     let one : length cells + 1 + 1 ≡ length (cells ++ (n, v) ∷ []) + 1 = omega (arith, length-append cells ((n, v) ∷ [])) in
     rw other (ap (λ c. number_from c ns name) one)
@@ -192,7 +201,8 @@ next_number cells n v ns name other =
 fresh_none : (cells : Cells) (n : List ℕ) → not (is_among (names_of cells) n) ≡ true → value_in cells n ≡ None
 fresh_none cells n e = none_of (value_in cells n) (sym (among_is cells n) ∙ not_true (is_among (names_of cells) n) e)
 
-state_pass : (m : Machine) (k : ℕ) (cells : Cells) (n : List ℕ) (first : ℤ) (ds : List Declaration) (z : ℤ) (zs : List ℤ) → Pass m k cells (State n first ∷ ds) (z ∷ zs) → Pass m k (cells ++ (n, Ok z) ∷ []) ds zs
+state_pass : (m : Machine) (k : ℕ) (cells : Cells) (n : List ℕ) (first : ℤ) (ds : List Declaration) (z : ℤ) (zs : List ℤ) →
+    Pass m k cells (State n first ∷ ds) (z ∷ zs) → Pass m k (cells ++ (n, Ok z) ∷ []) ds zs
 state_pass m k cells n first ds z zs pass =
     let parts = split_and (not (is_among (names_of cells) n)) (columns_fit (names_of cells ++ n ∷ []) ds) pass.fit in
     record {
@@ -214,10 +224,13 @@ state_pass m k cells n first ds z zs pass =
     }
 
 -- a formula after one more round
-formula_known : (m : Machine) (k : ℕ) (cells : Cells) (n : List ℕ) (sum : List Term) (ds : List Declaration) (z : ℤ) (zs : List ℤ) → Pass m k cells (Formula n sum ∷ ds) (z ∷ zs) → (i : ℕ) → k ≤ i → (name : List ℕ)
-    → value_in cells name ≡ None → bytes_eq name n ≡ true → column_over m (table m (suc i)) name ≡ Some (settled (sum_outcome (value_in cells) (Cell 0 (length cells + 1)) sum))
+formula_known : (m : Machine) (k : ℕ) (cells : Cells) (n : List ℕ) (sum : List Term) (ds : List Declaration) (z : ℤ) (zs : List ℤ) →
+    Pass m k cells (Formula n sum ∷ ds) (z ∷ zs) → (i : ℕ) → k ≤ i → (name : List ℕ)
+    → value_in cells name ≡ None → bytes_eq name n ≡ true →
+    column_over m (table m (suc i)) name ≡ Some (settled (sum_outcome (value_in cells) (Cell 0 (length cells + 1)) sum))
 formula_known m k cells n sum ds z zs pass i le name before same =
-    let parts = split_and (list_all (is_known_term (names_of cells)) sum && not (is_among (names_of cells) n)) (columns_fit (names_of cells ++ n ∷ []) ds) pass.fit in
+    let parts = split_and (list_all (is_known_term (names_of cells)) sum && not (is_among (names_of cells) n)) (columns_fit (names_of cells ++ n ∷ []) ds)
+    pass.fit in
     let first = split_and (list_all (is_known_term (names_of cells)) sum) (not (is_among (names_of cells) n)) parts.0 in
     let goes = pass.goes name before in
     let here : is_among (names_of cells ++ n ∷ []) name ≡ true = last_among (names_of cells) n name same in
@@ -244,10 +257,12 @@ pred_of : (j k : ℕ) → k + 1 ≤ j → (i : ℕ) × (j ≡ suc i) × (k ≤ i
 pred_of zero k le = absurd (omega arith)
 pred_of (suc i) k le = (i, refl, omega arith)
 
-formula_pass : (m : Machine) (k : ℕ) (cells : Cells) (n : List ℕ) (sum : List Term) (ds : List Declaration) (z : ℤ) (zs : List ℤ) (v : Result ℤ Fault) → v ≡ settled (sum_outcome (value_in cells) (Cell 0 (length cells + 1)) sum)
+formula_pass : (m : Machine) (k : ℕ) (cells : Cells) (n : List ℕ) (sum : List Term) (ds : List Declaration) (z : ℤ) (zs : List ℤ) (v : Result ℤ Fault) →
+    v ≡ settled (sum_outcome (value_in cells) (Cell 0 (length cells + 1)) sum)
     → Pass m k cells (Formula n sum ∷ ds) (z ∷ zs) → Pass m (k + 1) (cells ++ (n, v) ∷ []) ds zs
 formula_pass m k cells n sum ds z zs v v_is pass =
-    let parts = split_and (list_all (is_known_term (names_of cells)) sum && not (is_among (names_of cells) n)) (columns_fit (names_of cells ++ n ∷ []) ds) pass.fit in
+    let parts = split_and (list_all (is_known_term (names_of cells)) sum && not (is_among (names_of cells) n)) (columns_fit (names_of cells ++ n ∷ []) ds)
+    pass.fit in
     record {
       same = omega (arith, pass.same);
       fit = pushed_names cells n v ds parts.1;
@@ -267,7 +282,8 @@ formula_pass m k cells n sum ds z zs v v_is pass =
     }
 
 -- what declares no column is passed over
-skipped_procedure : (m : Machine) (k : ℕ) (cells : Cells) (n parameter target value : List ℕ) (ds : List Declaration) (z : ℤ) (zs : List ℤ) → Pass m k cells (Procedure n parameter target value ∷ ds) (z ∷ zs) → Pass m k cells ds zs
+skipped_procedure : (m : Machine) (k : ℕ) (cells : Cells) (n parameter target value : List ℕ) (ds : List Declaration) (z : ℤ) (zs : List ℤ) →
+    Pass m k cells (Procedure n parameter target value ∷ ds) (z ∷ zs) → Pass m k cells ds zs
 skipped_procedure m k cells n parameter target value ds z zs pass = record {
   same = omega (arith, pass.same);
   fit = pass.fit;
@@ -276,7 +292,8 @@ skipped_procedure m k cells n parameter target value ds z zs pass = record {
   known = pass.known;
 }
 
-skipped_view : (m : Machine) (k : ℕ) (cells : Cells) (n : List ℕ) (slots : List Slot) (ds : List Declaration) (z : ℤ) (zs : List ℤ) → Pass m k cells (View n slots ∷ ds) (z ∷ zs) → Pass m k cells ds zs
+skipped_view : (m : Machine) (k : ℕ) (cells : Cells) (n : List ℕ) (slots : List Slot) (ds : List Declaration) (z : ℤ) (zs : List ℤ) →
+    Pass m k cells (View n slots ∷ ds) (z ∷ zs) → Pass m k cells ds zs
 skipped_view m k cells n slots ds z zs pass = record {
   same = omega (arith, pass.same);
   fit = pass.fit;
@@ -285,14 +302,17 @@ skipped_view m k cells n slots ds z zs pass = record {
   known = pass.known;
 }
 
-passes : (m : Machine) (k : ℕ) (cells : Cells) (ds : List Declaration) (zs : List ℤ) → Pass m k cells ds zs → (name : List ℕ) → settled (value_in (work cells ds zs) name) ≡ meaning m name
+passes : (m : Machine) (k : ℕ) (cells : Cells) (ds : List Declaration) (zs : List ℤ) → Pass m k cells ds zs → (name : List ℕ) →
+    settled (value_in (work cells ds zs) name) ≡ meaning m name
 passes m k cells [] [] pass name = at_end m k cells name (value_in cells name) pass refl
 passes m k cells [] (z ∷ zs) pass name = absurd (omega (arith, pass.same))
 passes m k cells (d ∷ ds) [] pass name = absurd (omega (arith, pass.same))
 passes m k cells (State n first ∷ ds) (z ∷ zs) pass name = passes m k (cells ++ (n, Ok z) ∷ []) ds zs (state_pass m k cells n first ds z zs pass) name
 passes m k cells (Formula n sum ∷ ds) (z ∷ zs) pass name =
-    passes m (k + 1) (cells ++ (n, settled (sum_outcome (value_in cells) (Cell 0 (length cells + 1)) sum)) ∷ []) ds zs (formula_pass m k cells n sum ds z zs _ refl pass) name
-passes m k cells (Procedure n parameter target value ∷ ds) (z ∷ zs) pass name = passes m k cells ds zs (skipped_procedure m k cells n parameter target value ds z zs pass) name
+    passes m (k + 1) (cells ++ (n, settled (sum_outcome (value_in cells) (Cell 0 (length cells + 1)) sum)) ∷ []) ds zs
+    (formula_pass m k cells n sum ds z zs _ refl pass) name
+passes m k cells (Procedure n parameter target value ∷ ds) (z ∷ zs) pass name =
+    passes m k cells ds zs (skipped_procedure m k cells n parameter target value ds z zs pass) name
 passes m k cells (View n slots ∷ ds) (z ∷ zs) pass name = passes m k cells ds zs (skipped_view m k cells n slots ds z zs pass) name
 
 none_differ : NamesDiffer []
@@ -309,18 +329,22 @@ first_pass m well same = record {
 }
 
 -- the cells that are worked out in order have their meaning
-pub work_means : (m : Machine) → IsWellNamed m.book → length m.stored ≡ length m.book → (name : List ℕ) → settled (value_in (work [] m.book m.stored) name) ≡ meaning m name
+pub work_means : (m : Machine) → IsWellNamed m.book → length m.stored ≡ length m.book → (name : List ℕ) →
+    settled (value_in (work [] m.book m.stored) name) ≡ meaning m name
 work_means m well same name = passes m 0 [] m.book m.stored (first_pass m well same) name
 
 -- ---- each column is settled, and not by a cycle
 
-sum_settled : (m : Machine) (k : ℕ) (cells : Cells) (n : List ℕ) (sum : List Term) (ds : List Declaration) (z : ℤ) (zs : List ℤ) → Pass m k cells (Formula n sum ∷ ds) (z ∷ zs) → CellsHave IsNoCycle cells
+sum_settled : (m : Machine) (k : ℕ) (cells : Cells) (n : List ℕ) (sum : List Term) (ds : List Declaration) (z : ℤ) (zs : List ℤ) →
+    Pass m k cells (Formula n sum ∷ ds) (z ∷ zs) → CellsHave IsNoCycle cells
     → HasFault IsNoCycle (settled (sum_outcome (value_in cells) (Cell 0 (length cells + 1)) sum))
 sum_settled m k cells n sum ds z zs pass clean =
     let p = Cell 0 (length cells + 1) in
-    let parts = split_and (list_all (is_known_term (names_of cells)) sum && not (is_among (names_of cells) n)) (columns_fit (names_of cells ++ n ∷ []) ds) pass.fit in
+    let parts = split_and (list_all (is_known_term (names_of cells)) sum && not (is_among (names_of cells) n)) (columns_fit (names_of cells ++ n ∷ []) ds)
+    pass.fit in
     let first = split_and (list_all (is_known_term (names_of cells)) sum) (not (is_among (names_of cells) n)) parts.0 in
-    let agree : Agree (value_in cells) (value_in cells) (names_of cells) = λ other there. let v = some_of (value_in cells other) (sym (among_is cells other) ∙ there) in (v.0, v.1, v.1) in
+    let agree : Agree (value_in cells) (value_in cells) (names_of cells) = λ other there. let v =
+    some_of (value_in cells other) (sym (among_is cells other) ∙ there) in (v.0, v.1, v.1) in
     let r = sum_known (value_in cells) (value_in cells) p (names_of cells) agree sum first.0 in
     let has = sum_has IsNoCycle (value_in cells) p (value_has IsNoCycle cells clean) (λ e. cc) sum in
     subst (λ o. HasFault IsNoCycle (settled o)) (sym r.1) (subst (OutcomeHas IsNoCycle) r.1 has)
@@ -329,12 +353,14 @@ not_cycle : (r : Result ℤ Fault) → HasFault IsNoCycle r → r ≡ Err Cycle 
 not_cycle (Ok z) has e = cc
 not_cycle (Err f) has e = let is : f ≡ Cycle = cc in has is
 
-pushed_among : (cells : Cells) (n : List ℕ) (v : Result ℤ Fault) (ns : List (List ℕ)) (name : List ℕ) → is_among (names_of cells ++ n ∷ ns) name ≡ true → is_among (names_of (cells ++ (n, v) ∷ []) ++ ns) name ≡ true
+pushed_among : (cells : Cells) (n : List ℕ) (v : Result ℤ Fault) (ns : List (List ℕ)) (name : List ℕ) → is_among (names_of cells ++ n ∷ ns) name ≡ true →
+    is_among (names_of (cells ++ (n, v) ∷ []) ++ ns) name ≡ true
 pushed_among cells n v ns name e =
     subst (λ l. is_among l name ≡ true)
     (sym (append_assoc (names_of cells) (n ∷ []) ns) ∙ ap (λ l. l ++ ns) (sym (map-append (λ c. c.0) cells ((n, v) ∷ [])))) e
 
-settles : (m : Machine) (k : ℕ) (cells : Cells) (ds : List Declaration) (zs : List ℤ) → Pass m k cells ds zs → CellsHave IsNoCycle cells → (name : List ℕ) → is_among (names_of cells ++ columns ds) name ≡ true → IsSettled m name
+settles : (m : Machine) (k : ℕ) (cells : Cells) (ds : List Declaration) (zs : List ℤ) → Pass m k cells ds zs → CellsHave IsNoCycle cells → (name : List ℕ) →
+    is_among (names_of cells ++ columns ds) name ≡ true → IsSettled m name
 settles m k cells [] [] pass clean name there =
     let v = some_of (value_in cells name) (sym (among_is cells name) ∙ subst (λ l. is_among l name ≡ true) (append-nil (names_of cells)) there) in
     record {
@@ -345,11 +371,14 @@ settles m k cells [] [] pass clean name there =
 settles m k cells [] (z ∷ zs) pass clean name there = absurd (omega (arith, pass.same))
 settles m k cells (d ∷ ds) [] pass clean name there = absurd (omega (arith, pass.same))
 settles m k cells (State n first ∷ ds) (z ∷ zs) pass clean name there =
-    settles m k (cells ++ (n, Ok z) ∷ []) ds zs (state_pass m k cells n first ds z zs pass) (push_has IsNoCycle cells (n, Ok z) clean tt) name (pushed_among cells n (Ok z) (columns ds) name there)
+    settles m k (cells ++ (n, Ok z) ∷ []) ds zs (state_pass m k cells n first ds z zs pass) (push_has IsNoCycle cells (n, Ok z) clean tt) name
+    (pushed_among cells n (Ok z) (columns ds) name there)
 settles m k cells (Formula n sum ∷ ds) (z ∷ zs) pass clean name there =
     let v = settled (sum_outcome (value_in cells) (Cell 0 (length cells + 1)) sum) in
-    settles m (k + 1) (cells ++ (n, v) ∷ []) ds zs (formula_pass m k cells n sum ds z zs v refl pass) (push_has IsNoCycle cells (n, v) clean (sum_settled m k cells n sum ds z zs pass clean)) name (pushed_among cells n v (columns ds) name there)
-settles m k cells (Procedure n parameter target value ∷ ds) (z ∷ zs) pass clean name there = settles m k cells ds zs (skipped_procedure m k cells n parameter target value ds z zs pass) clean name there
+    settles m (k + 1) (cells ++ (n, v) ∷ []) ds zs (formula_pass m k cells n sum ds z zs v refl pass)
+    (push_has IsNoCycle cells (n, v) clean (sum_settled m k cells n sum ds z zs pass clean)) name (pushed_among cells n v (columns ds) name there)
+settles m k cells (Procedure n parameter target value ∷ ds) (z ∷ zs) pass clean name there =
+    settles m k cells ds zs (skipped_procedure m k cells n parameter target value ds z zs pass) clean name there
 settles m k cells (View n slots ∷ ds) (z ∷ zs) pass clean name there = settles m k cells ds zs (skipped_view m k cells n slots ds z zs pass) clean name there
 
 pub columns_settle : ColumnsSettle

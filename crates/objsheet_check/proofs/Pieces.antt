@@ -13,7 +13,8 @@ added text text' old middle left taken adds =
     taken ∙ ap (λ l. text ++ l) adds.2 ∙ sym (append_assoc text adds.0 left) ∙ ap (λ l. l ++ left) (sym adds.1)
 
 -- one piece more was taken
-pub taken_more : (text text' : List ℕ) (l0 l1 l2 : Option (List ℕ)) → WhereTold (IsTaken text) l0 l1 → WhereTold (Adds text text') l1 l2 → WhereTold (IsTaken text') l0 l2
+pub taken_more : (text text' : List ℕ) (l0 l1 l2 : Option (List ℕ)) → WhereTold (IsTaken text) l0 l1 → WhereTold (Adds text text') l1 l2 →
+    WhereTold (IsTaken text') l0 l2
 taken_more text text' l0 l1 None taken adds = tt
 taken_more text text' l0 None (Some l2) taken adds = absurd adds
 taken_more text text' None (Some l1) (Some l2) taken adds = absurd taken
@@ -36,7 +37,8 @@ on_err T E (Ok x) P h = tt
 on_err T E (Err e) P h = h
 
 -- the text was read to the end
-pub read_to_end : (text : List ℕ) (l0 l1 m : Option (List ℕ)) → WhereTold (IsTaken text) l0 l1 → WhereTold (λ old left. left ≡ []) m l1 → WhereTold (ReadsText text) l0 l1
+pub read_to_end : (text : List ℕ) (l0 l1 m : Option (List ℕ)) → WhereTold (IsTaken text) l0 l1 → WhereTold (λ old left. left ≡ []) m l1 →
+    WhereTold (ReadsText text) l0 l1
 read_to_end text l0 None m taken end = tt
 read_to_end text None (Some l1) m taken end = absurd taken
 read_to_end text (Some l0) (Some l1) None taken end = absurd end

@@ -10,7 +10,8 @@ use Rattle.sheet_define.specs.declared.read.DefinitionRefusal.TheVariants.{TooLo
 use Rattle.sheet_define.specs.declared.read.DefinitionRefusal.TheVariants as define
 use Rattle.sheet_define.specs.Definitions.{Defines, HasNone}
 use Rattle.sheet_types_formulas.specs.declared.refusal.TypeRefusal.{TypeRefusal}
-use Rattle.sheet_types_formulas.specs.declared.refusal.TypeRefusal.TheVariants.{Doubled, TooDeep, TooMany, UnknownName, Mismatch, NeedsFirst, NeedsType, DeclaredOther}
+use Rattle.sheet_types_formulas.specs.declared.refusal.TypeRefusal.TheVariants.{Doubled, TooDeep, TooMany, UnknownName, Mismatch, NeedsFirst, NeedsType}
+use Rattle.sheet_types_formulas.specs.declared.refusal.TypeRefusal.TheVariants.{DeclaredOther}
 use Rattle.sheet_types_formulas.specs.declared.refusal.TypeRefusal.TheVariants as types
 use Rattle.sheet_types_formulas.specs.Answers.{Answer, Answers}
 use Rattle.sheet_types.specs.Elaboration.{elaborated}
@@ -23,7 +24,8 @@ use Rattle.objsheet_check.specs.declared.checking.Verdict.TheVariants.{Good, Ref
 
 -- the same for both
 pub told_both : (P G : List ℕ → List ℕ → Type 0) (Q : Ends → Ends → Type 0) (l0 l1 w0 w1 : Option (List ℕ)) → WhereTold P l0 l1 → WhereTold G w0 w1
-    → ((old left before after : List ℕ) → P old left → G before after → Q (record { left = old; written = before }) (record { left = left; written = after })) → WhereTold Q (both l0 w0) (both l1 w1)
+    → ((old left before after : List ℕ) → P old left → G before after → Q (record { left = old; written = before }) (record { left = left; written = after })) →
+    WhereTold Q (both l0 w0) (both l1 w1)
 told_both P G Q l0 None w0 w1 p g f = tt
 told_both P G Q l0 (Some l1) w0 None p g f = tt
 told_both P G Q None (Some l1) w0 (Some w1) p g f = absurd p
@@ -65,7 +67,8 @@ no_book one text line (inr lacks) = λ book has.
 all_read : (text old left : List ℕ) → ReadsText text old left → length text ≤ 262144 → text ≡ old
 all_read text old left reads short = sym (reads.read ∙ ap (λ l. text ++ l) (reads.end short) ∙ append-nil text)
 
-no_definition : (text old left line : List ℕ) (why : DefinitionRefusal) → ReadsText text old left → Defines text (Err why) → definition_line why ≡ Some line → IsNoDefinition old line
+no_definition : (text old left line : List ℕ) (why : DefinitionRefusal) → ReadsText text old left → Defines text (Err why) → definition_line why ≡ Some line →
+    IsNoDefinition old line
 no_definition text old left line (TooLong n) reads refused says =
     let size : length old ≡ length text + length left = ap length reads.read ∙ length-append text left in
     let longer : 262144 < length old = omega (arith, size, refused.1) in
@@ -91,24 +94,29 @@ found_in_input one text old left (Refused line) reads (inr lacks) =
     let refused : IsRefusedText old line.items = inr (subst P (all_read text old left reads lacks.stands.short) lacks) in
     (refused, no_book one old line.items refused)
 
-pub all_found : OneDefinition → (text read : List ℕ) (v : Verdict) (l0 l1 : Option (List ℕ)) → read ≡ text → WhereTold (ReadsText text) l0 l1 → FindsInText read v → WhereTold (FindsInInput v) l0 l1
+pub all_found : OneDefinition → (text read : List ℕ) (v : Verdict) (l0 l1 : Option (List ℕ)) → read ≡ text → WhereTold (ReadsText text) l0 l1 →
+    FindsInText read v → WhereTold (FindsInInput v) l0 l1
 all_found one text read v l0 None same reads found = tt
 all_found one text read v None (Some l1) same reads found = absurd reads
-all_found one text read v (Some l0) (Some l1) same reads found = let P : List ℕ → Type 0 = λ t. FindsInText t v in found_in_input one text l0 l1 v reads (subst P same found)
+all_found one text read v (Some l0) (Some l1) same reads found = let P : List ℕ → Type 0 = λ t. FindsInText t v in
+    found_in_input one text l0 l1 v reads (subst P same found)
 
 -- ---- the line that is written
 
-pub unfit : (line said : List ℕ) (l0 l1 w0 w1 : Option (List ℕ)) → said ≡ line → WhereTold (λ old left. IsRefusedText old line × HasNoBook old) l0 l1 → Gains w0 w1 said → WhereTold IsUnfit (both l0 w0) (both l1 w1)
+pub unfit : (line said : List ℕ) (l0 l1 w0 w1 : Option (List ℕ)) → said ≡ line → WhereTold (λ old left. IsRefusedText old line × HasNoBook old) l0 l1 →
+    Gains w0 w1 said → WhereTold IsUnfit (both l0 w0) (both l1 w1)
 unfit line said l0 l1 w0 w1 same found gains =
     told_both (λ old left. IsRefusedText old line × HasNoBook old) (λ before after. after ≡ before ++ said) IsUnfit l0 l1 w0 w1 found gains
     (λ old left before after r w. record { line = line; refused = r.0; written = w ∙ ap (λ l. before ++ l) same })
 
-pub cut_off : (line said : List ℕ) (l0 l1 w0 w1 : Option (List ℕ)) → said ≡ line → WhereTold (λ old left. IsRefusedText old line × HasNoBook old) l0 l1 → WhereTold (GainsFront said) w0 w1 → WhereTold IsCutOff (both l0 w0) (both l1 w1)
+pub cut_off : (line said : List ℕ) (l0 l1 w0 w1 : Option (List ℕ)) → said ≡ line → WhereTold (λ old left. IsRefusedText old line × HasNoBook old) l0 l1 →
+    WhereTold (GainsFront said) w0 w1 → WhereTold IsCutOff (both l0 w0) (both l1 w1)
 cut_off line said l0 l1 w0 w1 same found front =
     told_both (λ old left. IsRefusedText old line × HasNoBook old) (GainsFront said) IsCutOff l0 l1 w0 w1 found front
     (λ old left before after r f. let P : List ℕ → Type 0 = λ l. GainsFront l before after in record { line = line; due = inr r.0; front = subst P same f })
 
-pub has_no_book : (line : List ℕ) (l0 l1 : Option (List ℕ)) → WhereTold (λ old left. IsRefusedText old line × HasNoBook old) l0 l1 → WhereTold (λ old left. HasNoBook old) l0 l1
+pub has_no_book : (line : List ℕ) (l0 l1 : Option (List ℕ)) → WhereTold (λ old left. IsRefusedText old line × HasNoBook old) l0 l1 →
+    WhereTold (λ old left. HasNoBook old) l0 l1
 has_no_book line l0 None found = tt
 has_no_book line None (Some l1) found = absurd found
 has_no_book line (Some l0) (Some l1) found = found.1

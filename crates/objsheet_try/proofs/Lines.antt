@@ -70,7 +70,8 @@ ended_append (l ∷ ls) ks =
 
 pub all_said_append : (ls ks : List (List ℕ)) → all_said (ls ++ ks) ≡ all_said ls ++ all_said ks
 all_said_append [] ks = refl
-all_said_append (l ∷ ls) ks = ap (λ x. unless_empty (said l) ++ x) (all_said_append ls ks) ∙ sym (append_assoc (unless_empty (said l)) (all_said ls) (all_said ks))
+all_said_append (l ∷ ls) ks =
+    ap (λ x. unless_empty (said l) ++ x) (all_said_append ls ks) ∙ sym (append_assoc (unless_empty (said l)) (all_said ls) (all_said ks))
 
 -- a line that no line feed ends is among none that one ends
 pub none_ended : (bytes : List ℕ) → HasNoFeed bytes → ended (lines bytes) ≡ []
@@ -92,7 +93,8 @@ pub cut_append : (a b : List ℕ) → IsCut a → IsCut b → IsCut (a ++ b)
 cut_append a b first next =
     let both : lines (a ++ b) ≡ lines a ++ lines b = first.apart b in
     let apart : (more : List ℕ) → lines ((a ++ b) ++ more) ≡ lines (a ++ b) ++ lines more =
-    λ more. ap lines (append_assoc a b more) ∙ first.apart (b ++ more) ∙ ap (λ l. lines a ++ l) (next.apart more) ∙ sym (append_assoc (lines a) (lines b) (lines more)) ∙ sym (ap (λ l. l ++ lines more) both) in
+    λ more. ap lines (append_assoc a b more) ∙ first.apart (b ++ more) ∙ ap (λ l. lines a ++ l) (next.apart more)
+    ∙ sym (append_assoc (lines a) (lines b) (lines more)) ∙ sym (ap (λ l. l ++ lines more) both) in
     let all_ended : ended (lines (a ++ b)) ≡ lines (a ++ b) =
     ap ended both ∙ ended_append (lines a) (lines b) ∙ ap (λ l. l ++ ended (lines b)) first.all_ended ∙ ap (λ l. lines a ++ l) next.all_ended ∙ sym both in
     record { apart = apart; all_ended = all_ended }

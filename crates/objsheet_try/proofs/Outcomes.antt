@@ -1,5 +1,6 @@
 -- What `try` comes to, from its parts.
-use Rattle.std.proofs.Common.{◌≡◌, ◌≢◌, ℕ, ◌<◌, ◌≤◌, ◌+◌, ◌-◌, ◌^◌, List, [], ◌∷◌, ◌++◌, length, take, drop, Some, None, refl, inl, inr, sym, ap, ◌∙◌, subst, append_assoc, append-nil, arith}
+use Rattle.std.proofs.Common.{◌≡◌, ◌≢◌, ℕ, ◌<◌, ◌≤◌, ◌+◌, ◌-◌, ◌^◌, List, [], ◌∷◌, ◌++◌, length, take, drop, Some, None, refl, inl, inr, sym, ap, ◌∙◌, subst}
+use Rattle.std.proofs.Common.{append_assoc, append-nil, arith}
 use Rattle.std.specs.Prelude.{Option, ◌⊎◌, nat_lt}
 use Rattle.std.proofs.lemmas.Bool.{cases_Bool, ltb-true, ltb-false}
 use Rattle.std.proofs.lemmas.List.{length-append, take-append-drop}
@@ -14,7 +15,8 @@ use Rattle.first_form.specs.FirstForm.{IsFirstForm}
 use Rattle.first_form.specs.declared.definition.Declaration.{Declaration}
 use Rattle.first_machine.specs.Workbook.{Machine}
 use Rattle.objsheet_try.specs.Serving.{IsCut, ServesAll, Stops, Breaks, Opens, IsLongerYet}
-use Rattle.objsheet_try.specs.Trying.{Tells, Answers, IsOther, IsDone, IsRead, IsStopped, IsBrokenOff, IsRefused, FullOutput, first_requests, too_long, later_form}
+use Rattle.objsheet_try.specs.Trying.{Tells, Answers, IsOther, IsDone, IsRead, IsStopped, IsBrokenOff, IsRefused, FullOutput, first_requests, too_long}
+use Rattle.objsheet_try.specs.Trying.{later_form}
 use Rattle.objsheet_try.specs.Trying.FullOutput.{other, done, longer}
 use Rattle.std.proofs.Math.Seq.{take-append_seam, take-append-add}
 use Rattle.objsheet_try.proofs.Lines.{none_ended, ended_append, all_said_append}
@@ -29,7 +31,8 @@ whole_text text old new divides =
     let all : divides.0 ++ new ≡ old = sym divides.1 in
     ap definition_of (sym all) ∙ (divides.2 new [] (sym (append-nil new))).0
 
-pub other_definition : (text : List ℕ) (l0 l1 : Option (List ℕ)) → WhereTold (Divides text) l0 l1 → ((book : List Declaration) → IsFirstForm text book → ⊥) → WhereTold (λ old new. IsOther old) l0 l1
+pub other_definition : (text : List ℕ) (l0 l1 : Option (List ℕ)) → WhereTold (Divides text) l0 l1 → ((book : List Declaration) → IsFirstForm text book → ⊥) →
+    WhereTold (λ old new. IsOther old) l0 l1
 other_definition text l0 None divides never = tt
 other_definition text None (Some l1) divides never = absurd divides
 other_definition text (Some l0) (Some l1) divides never =
@@ -53,10 +56,14 @@ record Read (m : Machine) (u1 u2 : Unread) (input middle left : List ℕ) : Type
   limit : u2.used ≤ 2 ^ 40
 
 -- from what is told where the request lines begin to what is told of the whole input
-transfer : (u0 u1 u2 : Unread) (m : Machine) (P Q : Ends → Ends → Type 0) (l0 l1 l2 w0 w2 : Option (List ℕ)) → u0.ahead ≡ [] → u0.used ≡ 0 → u2.used ≤ 2 ^ 40 → WhereTold (Opens m) (rest u0 l0) (rest u1 l1)
-    → WhereTold (λ old new. u1.used + length new ≡ u0.used + length old) (rest u0 l0) (rest u1 l1) → WhereTold (λ old new. u2.used + length new ≡ u1.used + length old) (rest u1 l1) (rest u2 l2)
+transfer : (u0 u1 u2 : Unread) (m : Machine) (P Q : Ends → Ends → Type 0) (l0 l1 l2 w0 w2 : Option (List ℕ)) → u0.ahead ≡ [] → u0.used ≡ 0 → u2.used ≤ 2 ^ 40 →
+    WhereTold (Opens m) (rest u0 l0) (rest u1 l1)
+    → WhereTold (λ old new. u1.used + length new ≡ u0.used + length old) (rest u0 l0) (rest u1 l1) →
+    WhereTold (λ old new. u2.used + length new ≡ u1.used + length old) (rest u1 l1) (rest u2 l2)
     → WhereTold P (both (rest u1 l1) w0) (both (rest u2 l2) w2)
-    → ((input middle left before after : List ℕ) → Read m u1 u2 input middle left → P (record { left = u1.ahead ++ middle; written = before }) (record { left = u2.ahead ++ left; written = after }) → Q (record { left = input; written = before }) (record { left = left; written = after }))
+    → ((input middle left before after : List ℕ) → Read m u1 u2 input middle left →
+    P (record { left = u1.ahead ++ middle; written = before }) (record { left = u2.ahead ++ left; written = after }) →
+    Q (record { left = input; written = before }) (record { left = left; written = after }))
     → WhereTold Q (both l0 w0) (both l2 w2)
 transfer u0 u1 u2 m P Q l0 l1 None w0 w2 none zero limit opens first next h f = tt
 transfer u0 u1 u2 m P Q l0 l1 (Some l2) w0 None none zero limit opens first next h f = tt
@@ -70,8 +77,10 @@ transfer u0 u1 u2 m P Q (Some l0) (Some l1) (Some l2) (Some w0) (Some w2) none z
     f l0 l1 l2 w0 w2 (record { opens = subst O same opens; first = omega arith; next = next; limit = limit }) h
 
 -- the same for the input alone
-transfer_input : (u0 u1 u2 : Unread) (m : Machine) (P Q : List ℕ → List ℕ → Type 0) (l0 l1 l2 : Option (List ℕ)) → u0.ahead ≡ [] → u0.used ≡ 0 → u2.used ≤ 2 ^ 40 → WhereTold (Opens m) (rest u0 l0) (rest u1 l1)
-    → WhereTold (λ old new. u1.used + length new ≡ u0.used + length old) (rest u0 l0) (rest u1 l1) → WhereTold (λ old new. u2.used + length new ≡ u1.used + length old) (rest u1 l1) (rest u2 l2)
+transfer_input : (u0 u1 u2 : Unread) (m : Machine) (P Q : List ℕ → List ℕ → Type 0) (l0 l1 l2 : Option (List ℕ)) → u0.ahead ≡ [] → u0.used ≡ 0 →
+    u2.used ≤ 2 ^ 40 → WhereTold (Opens m) (rest u0 l0) (rest u1 l1)
+    → WhereTold (λ old new. u1.used + length new ≡ u0.used + length old) (rest u0 l0) (rest u1 l1) →
+    WhereTold (λ old new. u2.used + length new ≡ u1.used + length old) (rest u1 l1) (rest u2 l2)
     → WhereTold P (rest u1 l1) (rest u2 l2)
     → ((input middle left : List ℕ) → Read m u1 u2 input middle left → P (u1.ahead ++ middle) (u2.ahead ++ left) → Q input left)
     → WhereTold Q l0 l2
@@ -86,18 +95,27 @@ transfer_input u0 u1 u2 m P Q (Some l0) (Some l1) (Some l2) none zero limit open
 
 -- ---- answers from the definition that was read
 
-answers_from : (m last : Machine) (input rest1 : List ℕ) (ls ks : List (List ℕ)) (text : List ℕ) (opens : Opens m input rest1) → ls ≡ ks → Tells m ls text last → Answers (definition_of input) ks text
+answers_from : (m last : Machine) (input rest1 : List ℕ) (ls ks : List (List ℕ)) (text : List ℕ) (opens : Opens m input rest1) → ls ≡ ks →
+    Tells m ls text last → Answers (definition_of input) ks text
 answers_from m last input rest1 ls ks text opens same told =
     let F : List ℕ → Type 0 = λ t. IsFirstForm t opens.book in
     let M : Machine → Type 0 = λ x. Tells x ks text last in
     let L : List (List ℕ) → Type 0 = λ x. Tells m x text last in
-    record { book = opens.book; form = subst F (sym (whole_text opens.text input rest1 opens.divides)) opens.form; last = last; told = subst M opens.is_start (subst L same told) }
+    record {
+      book = opens.book;
+      form = subst F (sym (whole_text opens.text input rest1 opens.divides)) opens.form;
+      last = last;
+      told =
+          subst M opens.is_start (subst L same told);
+    }
 
 -- the request lines of a front of the input, which reaches past the definition
-requests_front : (text input rest1 front back : List ℕ) (divides : Divides text input rest1) → rest1 ≡ front ++ back → requests_of (divides.0 ++ front) ≡ all_said (lines front)
+requests_front : (text input rest1 front back : List ℕ) (divides : Divides text input rest1) → rest1 ≡ front ++ back →
+    requests_of (divides.0 ++ front) ≡ all_said (lines front)
 requests_front text input rest1 front back divides same = ap all_said (divides.2 front back same).1
 
-ended_front : (text input rest1 front back : List ℕ) (divides : Divides text input rest1) → rest1 ≡ front ++ back → ended_requests_of (divides.0 ++ front) ≡ all_said (ended (lines front))
+ended_front : (text input rest1 front back : List ℕ) (divides : Divides text input rest1) → rest1 ≡ front ++ back →
+    ended_requests_of (divides.0 ++ front) ≡ all_said (ended (lines front))
 ended_front text input rest1 front back divides same = ap (λ ls. all_said (ended ls)) (divides.2 front back same).1
 
 requests_all : (text input rest1 : List ℕ) → Divides text input rest1 → requests_of input ≡ all_said (lines rest1)
@@ -106,18 +124,21 @@ requests_all text input rest1 divides = ap requests_of divides.1 ∙ requests_fr
 -- behind whole lines, a part of a line is none that a line feed ends
 ended_cut : (taken part : List ℕ) → IsCut taken → HasNoFeed part → ended (lines (taken ++ part)) ≡ lines taken
 ended_cut taken part cut none =
-    ap ended (cut.apart part) ∙ ended_append (lines taken) (lines part) ∙ ap (λ l. l ++ ended (lines part)) cut.all_ended ∙ ap (λ l. lines taken ++ l) (none_ended part none) ∙ append-nil (lines taken)
+    ap ended (cut.apart part) ∙ ended_append (lines taken) (lines part) ∙ ap (λ l. l ++ ended (lines part)) cut.all_ended
+    ∙ ap (λ l. lines taken ++ l) (none_ended part none) ∙ append-nil (lines taken)
 
 -- ---- status 0
 
 done_plain : (m now : Machine) (u1 u2 : Unread) (input middle left before after : List ℕ) → Read m u1 u2 input middle left
-    → ServesAll m now (record { left = u1.ahead ++ middle; written = before }) (record { left = u2.ahead ++ left; written = after }) → IsDone (record { left = input; written = before }) (record { left = left; written = after })
+    → ServesAll m now (record { left = u1.ahead ++ middle; written = before }) (record { left = u2.ahead ++ left; written = after }) →
+    IsDone (record { left = input; written = before }) (record { left = left; written = after })
 done_plain m now u1 u2 input middle left before after read all =
     let served = all.served in
     let r1 = u1.ahead ++ middle in
     let size = ap length all.end in
     let whole : r1 ≡ all.taken = served.left ∙ ap (λ l. all.taken ++ l) all.end ∙ append-nil all.taken in
-    let due : all_said (lines all.taken) ≡ requests_of input = ap (λ l. all_said (lines l)) (sym whole) ∙ sym (requests_all read.opens.text input r1 read.opens.divides) in
+    let due : all_said (lines all.taken) ≡ requests_of input = ap (λ l. all_said (lines l)) (sym whole)
+    ∙ sym (requests_all read.opens.text input r1 read.opens.divides) in
     record {
       end = nothing_left u2.ahead left all.end;
       short = omega (arith, read.first, read.next, read.limit);
@@ -126,21 +147,33 @@ done_plain m now u1 u2 input middle left before after read all =
       written = served.written;
     }
 
-pub tried_done : (u0 u1 u2 : Unread) (m now : Machine) (l0 l1 l2 w0 w2 : Option (List ℕ)) → u0.ahead ≡ [] → u0.used ≡ 0 → u2.used ≤ 2 ^ 40 → WhereTold (Opens m) (rest u0 l0) (rest u1 l1)
-    → WhereTold (λ old new. u1.used + length new ≡ u0.used + length old) (rest u0 l0) (rest u1 l1) → WhereTold (λ old new. u2.used + length new ≡ u1.used + length old) (rest u1 l1) (rest u2 l2)
+pub tried_done : (u0 u1 u2 : Unread) (m now : Machine) (l0 l1 l2 w0 w2 : Option (List ℕ)) → u0.ahead ≡ [] → u0.used ≡ 0 → u2.used ≤ 2 ^ 40 →
+    WhereTold (Opens m) (rest u0 l0) (rest u1 l1)
+    → WhereTold (λ old new. u1.used + length new ≡ u0.used + length old) (rest u0 l0) (rest u1 l1) →
+    WhereTold (λ old new. u2.used + length new ≡ u1.used + length old) (rest u1 l1) (rest u2 l2)
     → WhereTold (ServesAll m now) (both (rest u1 l1) w0) (both (rest u2 l2) w2) → WhereTold IsDone (both l0 w0) (both l2 w2)
-tried_done u0 u1 u2 m now l0 l1 l2 w0 w2 none zero limit opens first next h = transfer u0 u1 u2 m (ServesAll m now) IsDone l0 l1 l2 w0 w2 none zero limit opens first next h (done_plain m now u1 u2)
+tried_done u0 u1 u2 m now l0 l1 l2 w0 w2 none zero limit opens first next h =
+    transfer u0 u1 u2 m (ServesAll m now) IsDone l0 l1 l2 w0 w2 none zero limit opens first next h (done_plain m now u1 u2)
 
 read_plain : (m : Machine) (u1 u2 : Unread) (input middle left : List ℕ) → Read m u1 u2 input middle left → u2.ahead ++ left ≡ [] → IsRead input left
 read_plain m u1 u2 input middle left read end =
     let F : List ℕ → Type 0 = λ t. IsFirstForm t read.opens.book in
     let size = ap length end in
-    record { end = nothing_left u2.ahead left end; short = omega (arith, read.first, read.next, read.limit); book = read.opens.book; form = subst F (sym (whole_text read.opens.text input (u1.ahead ++ middle) read.opens.divides)) read.opens.form }
+    record {
+      end = nothing_left u2.ahead left end;
+      short = omega (arith, read.first, read.next, read.limit);
+      book = read.opens.book;
+      form =
+          subst F (sym (whole_text read.opens.text input (u1.ahead ++ middle) read.opens.divides)) read.opens.form;
+    }
 
-pub tried_read : (u0 u1 u2 : Unread) (m : Machine) (l0 l1 l2 : Option (List ℕ)) → u0.ahead ≡ [] → u0.used ≡ 0 → u2.used ≤ 2 ^ 40 → WhereTold (Opens m) (rest u0 l0) (rest u1 l1)
-    → WhereTold (λ old new. u1.used + length new ≡ u0.used + length old) (rest u0 l0) (rest u1 l1) → WhereTold (λ old new. u2.used + length new ≡ u1.used + length old) (rest u1 l1) (rest u2 l2)
+pub tried_read : (u0 u1 u2 : Unread) (m : Machine) (l0 l1 l2 : Option (List ℕ)) → u0.ahead ≡ [] → u0.used ≡ 0 → u2.used ≤ 2 ^ 40 →
+    WhereTold (Opens m) (rest u0 l0) (rest u1 l1)
+    → WhereTold (λ old new. u1.used + length new ≡ u0.used + length old) (rest u0 l0) (rest u1 l1) →
+    WhereTold (λ old new. u2.used + length new ≡ u1.used + length old) (rest u1 l1) (rest u2 l2)
     → WhereTold (λ old new. new ≡ []) (rest u1 l1) (rest u2 l2) → WhereTold IsRead l0 l2
-tried_read u0 u1 u2 m l0 l1 l2 none zero limit opens first next h = transfer_input u0 u1 u2 m (λ old new. new ≡ []) IsRead l0 l1 l2 none zero limit opens first next h (read_plain m u1 u2)
+tried_read u0 u1 u2 m l0 l1 l2 none zero limit opens first next h =
+    transfer_input u0 u1 u2 m (λ old new. new ≡ []) IsRead l0 l1 l2 none zero limit opens first next h (read_plain m u1 u2)
 
 -- ---- reading stopped
 
@@ -152,7 +185,8 @@ record TakenFront (m : Machine) (u1 u2 : Unread) (input middle left : List ℕ) 
   answers : Answers (definition_of input) (ended_requests_of front) text
 
 taken_front : (m : Machine) (u1 u2 : Unread) (input middle left before after : List ℕ) (read : Read m u1 u2 input middle left)
-    (stops : Stops m (record { left = u1.ahead ++ middle; written = before }) (record { left = u2.ahead ++ left; written = after })) → TakenFront m u1 u2 input middle left stops.lines_served.served.text
+    (stops : Stops m (record { left = u1.ahead ++ middle; written = before }) (record { left = u2.ahead ++ left; written = after })) →
+    TakenFront m u1 u2 input middle left stops.lines_served.served.text
 taken_front m u1 u2 input middle left before after read stops =
     let lines_taken = stops.lines_served.taken in
     let served = stops.lines_served.served in
@@ -164,7 +198,9 @@ taken_front m u1 u2 input middle left before after read stops =
     let input_is : input ≡ front ++ r2 = divides.1 ∙ ap (λ l. divides.0 ++ l) behind ∙ sym (append_assoc divides.0 (lines_taken ++ stops.part) r2) in
     let sizes = ap length input_is in
     let sum = length-append front r2 in
-    let due : all_said (lines lines_taken) ≡ ended_requests_of front = sym (ended_front read.opens.text input r1 (lines_taken ++ stops.part) r2 divides behind ∙ ap all_said (ended_cut lines_taken stops.part stops.lines_served.cut stops.none)) in
+    let due : all_said (lines lines_taken) ≡ ended_requests_of front =
+    sym (ended_front read.opens.text input r1 (lines_taken ++ stops.part) r2 divides behind
+    ∙ ap all_said (ended_cut lines_taken stops.part stops.lines_served.cut stops.none)) in
     record {
       front = front;
       input_is = input_is;
@@ -178,10 +214,12 @@ some_ahead (x ∷ xs) ys h = omega arith
 
 -- reading stopped because the input is too long
 longer_plain : (m : Machine) (u1 u2 : Unread) (input middle left before after : List ℕ) → u2.used ≡ 2 ^ 40 → u2.ahead ≢ [] → Read m u1 u2 input middle left
-    → Stops m (record { left = u1.ahead ++ middle; written = before }) (record { left = u2.ahead ++ left; written = after }) → IsLongerYet (record { left = input; written = before }) (record { left = left; written = after })
+    → Stops m (record { left = u1.ahead ++ middle; written = before }) (record { left = u2.ahead ++ left; written = after }) →
+    IsLongerYet (record { left = input; written = before }) (record { left = left; written = after })
 longer_plain m u1 u2 input middle left before after full more read stops =
     let t = taken_front m u1 u2 input middle left before after read stops in
-    let first : take (2 ^ 40) input ≡ t.front = ap (λ n. take n input) (sym full ∙ sym t.size) ∙ ap (take (length t.front)) t.input_is ∙ take-append_seam t.front (u2.ahead ++ left) in
+    let first : take (2 ^ 40) input ≡ t.front = ap (λ n. take n input) (sym full ∙ sym t.size) ∙ ap (take (length t.front)) t.input_is
+    ∙ take-append_seam t.front (u2.ahead ++ left) in
     let A : List ℕ → Type 0 = λ f. Answers (definition_of input) (ended_requests_of f) stops.lines_served.served.text in
     let some = some_ahead u2.ahead left more in
     record {
@@ -191,25 +229,33 @@ longer_plain m u1 u2 input middle left before after full more read stops =
       written = stops.same ∙ stops.lines_served.served.written;
     }
 
-pub tried_longer : (u0 u1 u2 : Unread) (m : Machine) (l0 l1 l2 w0 w2 : Option (List ℕ)) → u0.ahead ≡ [] → u0.used ≡ 0 → u2.used ≤ 2 ^ 40 → WhereTold (Opens m) (rest u0 l0) (rest u1 l1)
-    → WhereTold (λ old new. u1.used + length new ≡ u0.used + length old) (rest u0 l0) (rest u1 l1) → WhereTold (λ old new. u2.used + length new ≡ u1.used + length old) (rest u1 l1) (rest u2 l2)
+pub tried_longer : (u0 u1 u2 : Unread) (m : Machine) (l0 l1 l2 w0 w2 : Option (List ℕ)) → u0.ahead ≡ [] → u0.used ≡ 0 → u2.used ≤ 2 ^ 40 →
+    WhereTold (Opens m) (rest u0 l0) (rest u1 l1)
+    → WhereTold (λ old new. u1.used + length new ≡ u0.used + length old) (rest u0 l0) (rest u1 l1) →
+    WhereTold (λ old new. u2.used + length new ≡ u1.used + length old) (rest u1 l1) (rest u2 l2)
     → WhereTold (Stops m) (both (rest u1 l1) w0) (both (rest u2 l2) w2) → u2.used ≡ 2 ^ 40 → u2.ahead ≢ [] → WhereTold IsLongerYet (both l0 w0) (both l2 w2)
 tried_longer u0 u1 u2 m l0 l1 l2 w0 w2 none zero limit opens first next h full more =
-    transfer u0 u1 u2 m (Stops m) IsLongerYet l0 l1 l2 w0 w2 none zero limit opens first next h (λ input middle left before after read stops. longer_plain m u1 u2 input middle left before after full more read stops)
+    transfer u0 u1 u2 m (Stops m) IsLongerYet l0 l1 l2 w0 w2 none zero limit opens first next h (λ input middle left before after read stops.
+    longer_plain m u1 u2 input middle left before after full more read stops)
 
-longer_size : (m : Machine) (u1 u2 : Unread) (input middle left : List ℕ) → u2.used ≡ 2 ^ 40 → u2.ahead ≢ [] → Read m u1 u2 input middle left → 2 ^ 40 < length input
+longer_size : (m : Machine) (u1 u2 : Unread) (input middle left : List ℕ) → u2.used ≡ 2 ^ 40 → u2.ahead ≢ [] → Read m u1 u2 input middle left →
+    2 ^ 40 < length input
 longer_size m u1 u2 input middle left full more read = let some = some_ahead u2.ahead left more in omega (arith, read.first, read.next, full, some)
 
-pub tried_longer_input : (u0 u1 u2 : Unread) (m : Machine) (l0 l1 l2 : Option (List ℕ)) → u0.ahead ≡ [] → u0.used ≡ 0 → u2.used ≤ 2 ^ 40 → WhereTold (Opens m) (rest u0 l0) (rest u1 l1)
-    → WhereTold (λ old new. u1.used + length new ≡ u0.used + length old) (rest u0 l0) (rest u1 l1) → WhereTold (λ old new. u2.used + length new ≡ u1.used + length old) (rest u1 l1) (rest u2 l2)
+pub tried_longer_input : (u0 u1 u2 : Unread) (m : Machine) (l0 l1 l2 : Option (List ℕ)) → u0.ahead ≡ [] → u0.used ≡ 0 → u2.used ≤ 2 ^ 40 →
+    WhereTold (Opens m) (rest u0 l0) (rest u1 l1)
+    → WhereTold (λ old new. u1.used + length new ≡ u0.used + length old) (rest u0 l0) (rest u1 l1) →
+    WhereTold (λ old new. u2.used + length new ≡ u1.used + length old) (rest u1 l1) (rest u2 l2)
     → u2.used ≡ 2 ^ 40 → u2.ahead ≢ [] → WhereTold (λ input left. 2 ^ 40 < length input) l0 l2
 tried_longer_input u0 u1 u2 m l0 l1 l2 none zero limit opens first next full more =
-    transfer_input u0 u1 u2 m (λ old new. u2.used + length new ≡ u1.used + length old) (λ input left. 2 ^ 40 < length input) l0 l1 l2 none zero limit opens first next next
+    transfer_input u0 u1 u2 m (λ old new. u2.used + length new ≡ u1.used + length old) (λ input left. 2 ^ 40 < length input) l0 l1 l2 none zero limit opens
+    first next next
     (λ input middle left read same. longer_size m u1 u2 input middle left full more read)
 
 -- the source failed between request lines
 stopped_plain : (m : Machine) (u1 u2 : Unread) (input middle left before after : List ℕ) → u2.ahead ≡ [] → Read m u1 u2 input middle left
-    → Stops m (record { left = u1.ahead ++ middle; written = before }) (record { left = u2.ahead ++ left; written = after }) → IsStopped (record { left = input; written = before }) (record { left = left; written = after })
+    → Stops m (record { left = u1.ahead ++ middle; written = before }) (record { left = u2.ahead ++ left; written = after }) →
+    IsStopped (record { left = input; written = before }) (record { left = left; written = after })
 stopped_plain m u1 u2 input middle left before after dry read stops =
     let t = taken_front m u1 u2 input middle left before after read stops in
     record {
@@ -220,14 +266,18 @@ stopped_plain m u1 u2 input middle left before after dry read stops =
       written = stops.same ∙ stops.lines_served.served.written;
     }
 
-pub tried_stopped : (u0 u1 u2 : Unread) (m : Machine) (l0 l1 l2 w0 w2 : Option (List ℕ)) → u0.ahead ≡ [] → u0.used ≡ 0 → u2.used ≤ 2 ^ 40 → WhereTold (Opens m) (rest u0 l0) (rest u1 l1)
-    → WhereTold (λ old new. u1.used + length new ≡ u0.used + length old) (rest u0 l0) (rest u1 l1) → WhereTold (λ old new. u2.used + length new ≡ u1.used + length old) (rest u1 l1) (rest u2 l2)
+pub tried_stopped : (u0 u1 u2 : Unread) (m : Machine) (l0 l1 l2 w0 w2 : Option (List ℕ)) → u0.ahead ≡ [] → u0.used ≡ 0 → u2.used ≤ 2 ^ 40 →
+    WhereTold (Opens m) (rest u0 l0) (rest u1 l1)
+    → WhereTold (λ old new. u1.used + length new ≡ u0.used + length old) (rest u0 l0) (rest u1 l1) →
+    WhereTold (λ old new. u2.used + length new ≡ u1.used + length old) (rest u1 l1) (rest u2 l2)
     → WhereTold (Stops m) (both (rest u1 l1) w0) (both (rest u2 l2) w2) → u2.ahead ≡ [] → WhereTold IsStopped (both l0 w0) (both l2 w2)
 tried_stopped u0 u1 u2 m l0 l1 l2 w0 w2 none zero limit opens first next h dry =
-    transfer u0 u1 u2 m (Stops m) IsStopped l0 l1 l2 w0 w2 none zero limit opens first next h (λ input middle left before after read stops. stopped_plain m u1 u2 input middle left before after dry read stops)
+    transfer u0 u1 u2 m (Stops m) IsStopped l0 l1 l2 w0 w2 none zero limit opens first next h (λ input middle left before after read stops.
+    stopped_plain m u1 u2 input middle left before after dry read stops)
 
 -- the source failed before the definition was read
-pub open_stopped : (u0 u1 : Unread) (l0 l1 w : Option (List ℕ)) → u0.ahead ≡ [] → u1.ahead ≡ [] → WhereTold StopsDividing (rest u0 l0) (rest u1 l1) → WhereTold IsStopped (both l0 w) (both l1 w)
+pub open_stopped : (u0 u1 : Unread) (l0 l1 w : Option (List ℕ)) → u0.ahead ≡ [] → u1.ahead ≡ [] → WhereTold StopsDividing (rest u0 l0) (rest u1 l1) →
+    WhereTold IsStopped (both l0 w) (both l1 w)
 open_stopped u0 u1 l0 None w none dry stops = tt
 open_stopped u0 u1 l0 (Some l1) None none dry stops = tt
 open_stopped u0 u1 None (Some l1) (Some w) none dry stops = absurd stops
@@ -241,7 +291,8 @@ open_stopped u0 u1 (Some l0) (Some l1) (Some w) none dry stops =
       written = sym (append-nil w);
     }
 
-pub open_other : (u0 u1 : Unread) (l0 l1 : Option (List ℕ)) → u0.ahead ≡ [] → WhereTold (λ old new. IsOther old) (rest u0 l0) (rest u1 l1) → WhereTold (λ input left. IsOther input) l0 l1
+pub open_other : (u0 u1 : Unread) (l0 l1 : Option (List ℕ)) → u0.ahead ≡ [] → WhereTold (λ old new. IsOther old) (rest u0 l0) (rest u1 l1) →
+    WhereTold (λ input left. IsOther input) l0 l1
 open_other u0 u1 l0 None none h = tt
 open_other u0 u1 None (Some l1) none h = absurd h
 open_other u0 u1 (Some l0) (Some l1) none h =
@@ -257,19 +308,29 @@ record IsDue (input text : List ℕ) : Type 0 where
   back : List ℕ
   parts : full ≡ text ++ back
 
-due_short : (m last : Machine) (input r1 taken left text : List ℕ) (opens : Opens m input r1) → r1 ≡ taken ++ left → IsCut taken ⊎ (left ≡ []) → length input ≤ 2 ^ 40 → last.book ≡ m.book → Tells m (all_said (lines taken)) text last → IsDue input text
+due_short : (m last : Machine) (input r1 taken left text : List ℕ) (opens : Opens m input r1) → r1 ≡ taken ++ left → IsCut taken ⊎ (left ≡ []) →
+    length input ≤ 2 ^ 40 → last.book ≡ m.book → Tells m (all_said (lines taken)) text last → IsDue input text
 due_short m last input r1 taken left text opens parts (inl cut) short book told =
     let more = starved last (all_said (lines left)) in
     let all = tells_append m last last (all_said (lines taken)) (all_said (lines left)) text more.text book told more.told in
     let due : all_said (lines taken) ++ all_said (lines left) ≡ requests_of input =
-    sym (requests_all opens.text input r1 opens.divides ∙ ap (λ l. all_said (lines l)) parts ∙ ap all_said (cut.apart left) ∙ all_said_append (lines taken) (lines left)) in
-    record { full = text ++ more.text; is_full = done (text ++ more.text) short (answers_from m last input r1 _ _ (text ++ more.text) opens due all); back = more.text; parts = refl }
+    sym (requests_all opens.text input r1 opens.divides ∙ ap (λ l. all_said (lines l)) parts ∙ ap all_said (cut.apart left)
+    ∙ all_said_append (lines taken) (lines left)) in
+    record {
+      full = text ++ more.text;
+      is_full = done (text ++ more.text) short (answers_from m last input r1 _ _ (text ++ more.text) opens due all);
+      back =
+          more.text;
+      parts = refl;
+    }
 due_short m last input r1 taken left text opens parts (inr end) short book told =
     let full : r1 ≡ taken = parts ∙ ap (λ l. taken ++ l) end ∙ append-nil taken in
     let due : all_said (lines taken) ≡ requests_of input = sym (requests_all opens.text input r1 opens.divides ∙ ap (λ l. all_said (lines l)) full) in
     record { full = text; is_full = done text short (answers_from m last input r1 _ _ text opens due told); back = []; parts = sym (append-nil text) }
 
-due_long : (m last : Machine) (input r1 taken left text : List ℕ) (opens : Opens m input r1) (room : ℕ) → r1 ≡ taken ++ left → IsCut taken → 2 ^ 40 < length input → length (opens.divides.0 ++ taken) + room ≡ 2 ^ 40 → last.book ≡ m.book → Tells m (all_said (lines taken)) text last → IsDue input text
+due_long : (m last : Machine) (input r1 taken left text : List ℕ) (opens : Opens m input r1) (room : ℕ) → r1 ≡ taken ++ left → IsCut taken →
+    2 ^ 40 < length input → length (opens.divides.0 ++ taken) + room ≡ 2 ^ 40 → last.book ≡ m.book → Tells m (all_said (lines taken)) text last →
+    IsDue input text
 due_long m last input r1 taken left text opens room parts cut long size book told =
     let divides = opens.divides in
     let near = take room left in
@@ -278,10 +339,13 @@ due_long m last input r1 taken left text opens room parts cut long size book tol
     let all = tells_append m last last (all_said (lines taken)) (all_said (ended (lines near))) text more.text book told more.told in
     let behind : r1 ≡ (taken ++ near) ++ far = parts ∙ ap (λ l. taken ++ l) (sym (take-append-drop room left)) ∙ sym (append_assoc taken near far) in
     let input_is : input ≡ (divides.0 ++ taken) ++ left = divides.1 ∙ ap (λ l. divides.0 ++ l) parts ∙ sym (append_assoc divides.0 taken left) in
-    let first : take (2 ^ 40) input ≡ divides.0 ++ (taken ++ near) = ap (λ n. take n input) (sym size) ∙ ap (take (length (divides.0 ++ taken) + room)) input_is ∙ take-append-add (divides.0 ++ taken) left room ∙ append_assoc divides.0 taken near in
-    let ended_lines : ended (lines (taken ++ near)) ≡ lines taken ++ ended (lines near) = ap ended (cut.apart near) ∙ ended_append (lines taken) (lines near) ∙ ap (λ l. l ++ ended (lines near)) cut.all_ended in
+    let first : take (2 ^ 40) input ≡ divides.0 ++ (taken ++ near) = ap (λ n. take n input) (sym size) ∙ ap (take (length (divides.0 ++ taken) + room)) input_is
+    ∙ take-append-add (divides.0 ++ taken) left room ∙ append_assoc divides.0 taken near in
+    let ended_lines : ended (lines (taken ++ near)) ≡ lines taken ++ ended (lines near) = ap ended (cut.apart near) ∙ ended_append (lines taken) (lines near)
+    ∙ ap (λ l. l ++ ended (lines near)) cut.all_ended in
     let due : all_said (lines taken) ++ all_said (ended (lines near)) ≡ first_requests input =
-    sym (ap ended_requests_of first ∙ ended_front opens.text input r1 (taken ++ near) far divides behind ∙ ap all_said ended_lines ∙ all_said_append (lines taken) (ended (lines near))) in
+    sym (ap ended_requests_of first ∙ ended_front opens.text input r1 (taken ++ near) far divides behind ∙ ap all_said ended_lines
+    ∙ all_said_append (lines taken) (ended (lines near))) in
     record {
       full = (text ++ more.text) ++ too_long;
       is_full = longer (text ++ more.text) long (answers_from m last input r1 _ _ (text ++ more.text) opens due all);
@@ -289,19 +353,22 @@ due_long m last input r1 taken left text opens room parts cut long size book tol
       parts = append_assoc text more.text too_long;
     }
 
-due_past : (m last : Machine) (input r1 taken left text : List ℕ) (opens : Opens m input r1) → r1 ≡ taken ++ left → IsCut taken ⊎ (left ≡ []) → 2 ^ 40 < length input → length (opens.divides.0 ++ taken) ≤ 2 ^ 40 → last.book ≡ m.book → Tells m (all_said (lines taken)) text last → IsDue input text
+due_past : (m last : Machine) (input r1 taken left text : List ℕ) (opens : Opens m input r1) → r1 ≡ taken ++ left → IsCut taken ⊎ (left ≡ []) →
+    2 ^ 40 < length input → length (opens.divides.0 ++ taken) ≤ 2 ^ 40 → last.book ≡ m.book → Tells m (all_said (lines taken)) text last → IsDue input text
 due_past m last input r1 taken left text opens parts (inl cut) long within book told =
     let room = 2 ^ 40 - length (opens.divides.0 ++ taken) in
     due_long m last input r1 taken left text opens room parts cut long (omega arith) book told
 due_past m last input r1 taken left text opens parts (inr end) long within book told =
-    let input_is : input ≡ (opens.divides.0 ++ taken) ++ left = opens.divides.1 ∙ ap (λ l. opens.divides.0 ++ l) parts ∙ sym (append_assoc opens.divides.0 taken left) in
+    let input_is : input ≡ (opens.divides.0 ++ taken) ++ left = opens.divides.1 ∙ ap (λ l. opens.divides.0 ++ l) parts
+    ∙ sym (append_assoc opens.divides.0 taken left) in
     let sizes = ap length input_is in
     let sum = length-append (opens.divides.0 ++ taken) left in
     let none = ap length end in
     absurd (omega arith)
 
 -- the text of the replies to some lines of the input, within its greatest length, is a front of all that is due
-due_front : (m last : Machine) (input r1 taken left text : List ℕ) (opens : Opens m input r1) → r1 ≡ taken ++ left → IsCut taken ⊎ (left ≡ []) → length (opens.divides.0 ++ taken) ≤ 2 ^ 40 → last.book ≡ m.book → Tells m (all_said (lines taken)) text last → IsDue input text
+due_front : (m last : Machine) (input r1 taken left text : List ℕ) (opens : Opens m input r1) → r1 ≡ taken ++ left → IsCut taken ⊎ (left ≡ []) →
+    length (opens.divides.0 ++ taken) ≤ 2 ^ 40 → last.book ≡ m.book → Tells m (all_said (lines taken)) text last → IsDue input text
 due_front m last input r1 taken left text opens parts cut within book told =
     elim (cases_Bool (nat_lt (2 ^ 40) (length input))) [
       | inl more ↦ due_past m last input r1 taken left text opens parts cut (ltb-true (2 ^ 40) (length input) more) within book told
@@ -309,50 +376,68 @@ due_front m last input r1 taken left text opens parts cut within book told =
     ]
 
 -- a front of the text of some replies is a front of all that is due
-due_gains : (input text before after : List ℕ) → IsDue input text → GainsFront text before after → (full : List ℕ) × FullOutput input full × GainsFront full before after
-due_gains input text before after due gains =
-    (due.full, due.is_full, (gains.0, gains.1, (gains.2.0 ++ due.back, due.parts ∙ ap (λ l. l ++ due.back) gains.2.1 ∙ append_assoc gains.0 gains.2.0 due.back)))
+due_gains : (input text before after : List ℕ) → IsDue input text → GainsFront text before after →
+    (full : List ℕ) × FullOutput input full × GainsFront full before after
+due_gains input text before after due gains = (
+  due.full,
+  due.is_full,
+  (gains.0, gains.1, (gains.2.0 ++ due.back, due.parts ∙ ap (λ l. l ++ due.back) gains.2.1 ∙ append_assoc gains.0 gains.2.0 due.back)),
+)
 
 -- the sink failed
 broken_plain : (m : Machine) (u1 u2 : Unread) (input middle left before after : List ℕ) → Read m u1 u2 input middle left
-    → Breaks m (record { left = u1.ahead ++ middle; written = before }) (record { left = u2.ahead ++ left; written = after }) → IsBrokenOff (record { left = input; written = before }) (record { left = left; written = after })
+    → Breaks m (record { left = u1.ahead ++ middle; written = before }) (record { left = u2.ahead ++ left; written = after }) →
+    IsBrokenOff (record { left = input; written = before }) (record { left = left; written = after })
 broken_plain m u1 u2 input middle left before after read breaks =
     let divides = read.opens.divides in
     let r1 = u1.ahead ++ middle in
     let r2 = u2.ahead ++ left in
-    let input_is : input ≡ (divides.0 ++ breaks.taken) ++ r2 = divides.1 ∙ ap (λ l. divides.0 ++ l) breaks.left ∙ sym (append_assoc divides.0 breaks.taken r2) in
+    let input_is : input ≡ (divides.0 ++ breaks.taken) ++ r2 = divides.1 ∙ ap (λ l. divides.0 ++ l) breaks.left
+    ∙ sym (append_assoc divides.0 breaks.taken r2) in
     let sizes = ap length input_is in
     let sum = length-append (divides.0 ++ breaks.taken) r2 in
-    inr (due_gains input breaks.text before after (due_front m breaks.last input r1 breaks.taken r2 breaks.text read.opens breaks.left breaks.cut (omega (arith, read.first, read.next, read.limit)) breaks.book breaks.told) breaks.front)
+    inr (due_gains input breaks.text before after
+    (due_front m breaks.last input r1 breaks.taken r2 breaks.text read.opens breaks.left breaks.cut (omega (arith, read.first, read.next, read.limit))
+    breaks.book breaks.told) breaks.front)
 
-pub tried_broken : (u0 u1 u2 : Unread) (m : Machine) (l0 l1 l2 w0 w2 : Option (List ℕ)) → u0.ahead ≡ [] → u0.used ≡ 0 → u2.used ≤ 2 ^ 40 → WhereTold (Opens m) (rest u0 l0) (rest u1 l1)
-    → WhereTold (λ old new. u1.used + length new ≡ u0.used + length old) (rest u0 l0) (rest u1 l1) → WhereTold (λ old new. u2.used + length new ≡ u1.used + length old) (rest u1 l1) (rest u2 l2)
+pub tried_broken : (u0 u1 u2 : Unread) (m : Machine) (l0 l1 l2 w0 w2 : Option (List ℕ)) → u0.ahead ≡ [] → u0.used ≡ 0 → u2.used ≤ 2 ^ 40 →
+    WhereTold (Opens m) (rest u0 l0) (rest u1 l1)
+    → WhereTold (λ old new. u1.used + length new ≡ u0.used + length old) (rest u0 l0) (rest u1 l1) →
+    WhereTold (λ old new. u2.used + length new ≡ u1.used + length old) (rest u1 l1) (rest u2 l2)
     → WhereTold (Breaks m) (both (rest u1 l1) w0) (both (rest u2 l2) w2) → WhereTold IsBrokenOff (both l0 w0) (both l2 w2)
-tried_broken u0 u1 u2 m l0 l1 l2 w0 w2 none zero limit opens first next h = transfer u0 u1 u2 m (Breaks m) IsBrokenOff l0 l1 l2 w0 w2 none zero limit opens first next h (broken_plain m u1 u2)
+tried_broken u0 u1 u2 m l0 l1 l2 w0 w2 none zero limit opens first next h =
+    transfer u0 u1 u2 m (Breaks m) IsBrokenOff l0 l1 l2 w0 w2 none zero limit opens first next h (broken_plain m u1 u2)
 
 -- there was no memory between request lines
 starved_plain : (m : Machine) (u1 u2 : Unread) (input middle left before after : List ℕ) → Read m u1 u2 input middle left
-    → Stops m (record { left = u1.ahead ++ middle; written = before }) (record { left = u2.ahead ++ left; written = after }) → IsBrokenOff (record { left = input; written = before }) (record { left = left; written = after })
+    → Stops m (record { left = u1.ahead ++ middle; written = before }) (record { left = u2.ahead ++ left; written = after }) →
+    IsBrokenOff (record { left = input; written = before }) (record { left = left; written = after })
 starved_plain m u1 u2 input middle left before after read stops =
     let t = taken_front m u1 u2 input middle left before after read stops in
     let divides = read.opens.divides in
     let served = stops.lines_served.served in
     let r1 = u1.ahead ++ middle in
-    let input_is : input ≡ (divides.0 ++ stops.lines_served.taken) ++ stops.middle.left = divides.1 ∙ ap (λ l. divides.0 ++ l) served.left ∙ sym (append_assoc divides.0 stops.lines_served.taken stops.middle.left) in
+    let input_is : input ≡ (divides.0 ++ stops.lines_served.taken) ++ stops.middle.left = divides.1 ∙ ap (λ l. divides.0 ++ l) served.left
+    ∙ sym (append_assoc divides.0 stops.lines_served.taken stops.middle.left) in
     let sizes = ap length input_is in
     let sum = length-append (divides.0 ++ stops.lines_served.taken) stops.middle.left in
     let later = ap length stops.left in
     let parts = length-append stops.part (u2.ahead ++ left) in
     let gains : GainsFront served.text before after = (served.text, stops.same ∙ served.written, ([], sym (append-nil served.text))) in
-    inr (due_gains input served.text before after (due_front m stops.now input r1 stops.lines_served.taken stops.middle.left served.text read.opens served.left (inl stops.lines_served.cut) (omega (arith, read.first, read.next, read.limit, sizes, sum, later, parts)) served.book served.told) gains)
+    inr (due_gains input served.text before after (due_front m stops.now input r1 stops.lines_served.taken stops.middle.left served.text read.opens served.left
+    (inl stops.lines_served.cut) (omega (arith, read.first, read.next, read.limit, sizes, sum, later, parts)) served.book served.told) gains)
 
-pub tried_starved : (u0 u1 u2 : Unread) (m : Machine) (l0 l1 l2 w0 w2 : Option (List ℕ)) → u0.ahead ≡ [] → u0.used ≡ 0 → u2.used ≤ 2 ^ 40 → WhereTold (Opens m) (rest u0 l0) (rest u1 l1)
-    → WhereTold (λ old new. u1.used + length new ≡ u0.used + length old) (rest u0 l0) (rest u1 l1) → WhereTold (λ old new. u2.used + length new ≡ u1.used + length old) (rest u1 l1) (rest u2 l2)
+pub tried_starved : (u0 u1 u2 : Unread) (m : Machine) (l0 l1 l2 w0 w2 : Option (List ℕ)) → u0.ahead ≡ [] → u0.used ≡ 0 → u2.used ≤ 2 ^ 40 →
+    WhereTold (Opens m) (rest u0 l0) (rest u1 l1)
+    → WhereTold (λ old new. u1.used + length new ≡ u0.used + length old) (rest u0 l0) (rest u1 l1) →
+    WhereTold (λ old new. u2.used + length new ≡ u1.used + length old) (rest u1 l1) (rest u2 l2)
     → WhereTold (Stops m) (both (rest u1 l1) w0) (both (rest u2 l2) w2) → WhereTold IsBrokenOff (both l0 w0) (both l2 w2)
-tried_starved u0 u1 u2 m l0 l1 l2 w0 w2 none zero limit opens first next h = transfer u0 u1 u2 m (Stops m) IsBrokenOff l0 l1 l2 w0 w2 none zero limit opens first next h (starved_plain m u1 u2)
+tried_starved u0 u1 u2 m l0 l1 l2 w0 w2 none zero limit opens first next h =
+    transfer u0 u1 u2 m (Stops m) IsBrokenOff l0 l1 l2 w0 w2 none zero limit opens first next h (starved_plain m u1 u2)
 
 -- nothing was written yet
-pub open_broken : (u0 u1 : Unread) (l0 l1 w : Option (List ℕ)) → WhereTold (λ old new. u1.used + length new ≡ u0.used + length old) (rest u0 l0) (rest u1 l1) → WhereTold IsBrokenOff (both l0 w) (both l1 w)
+pub open_broken : (u0 u1 : Unread) (l0 l1 w : Option (List ℕ)) → WhereTold (λ old new. u1.used + length new ≡ u0.used + length old) (rest u0 l0) (rest u1 l1) →
+    WhereTold IsBrokenOff (both l0 w) (both l1 w)
 open_broken u0 u1 l0 None w counts = tt
 open_broken u0 u1 l0 (Some l1) None counts = tt
 open_broken u0 u1 None (Some l1) (Some w) counts = absurd counts
@@ -361,7 +446,8 @@ open_broken u0 u1 (Some l0) (Some l1) (Some w) counts = inl refl
 -- ---- a last line
 
 -- the definition is refused, and a front of that was written
-pub other_broken : (l0 l1 w0 w1 : Option (List ℕ)) → WhereTold (λ input left. IsOther input) l0 l1 → WhereTold (GainsFront later_form) w0 w1 → WhereTold IsBrokenOff (both l0 w0) (both l1 w1)
+pub other_broken : (l0 l1 w0 w1 : Option (List ℕ)) → WhereTold (λ input left. IsOther input) l0 l1 → WhereTold (GainsFront later_form) w0 w1 →
+    WhereTold IsBrokenOff (both l0 w0) (both l1 w1)
 other_broken l0 None w0 w1 h gains = tt
 other_broken l0 (Some l1) w0 None h gains = tt
 other_broken None (Some l1) w0 (Some w1) h gains = absurd h
@@ -369,17 +455,25 @@ other_broken (Some l0) (Some l1) None (Some w1) h gains = absurd gains
 other_broken (Some l0) (Some l1) (Some w0) (Some w1) h gains = inr (later_form, other h, gains)
 
 -- the input is too long, and that was written
-pub longer_refused : (l0 l1 w0 w1 w2 : Option (List ℕ)) → WhereTold IsLongerYet (both l0 w0) (both l1 w1) → WhereTold (λ old new. new ≡ old ++ too_long) w1 w2 → WhereTold IsRefused (both l0 w0) (both l1 w2)
+pub longer_refused : (l0 l1 w0 w1 w2 : Option (List ℕ)) → WhereTold IsLongerYet (both l0 w0) (both l1 w1) → WhereTold (λ old new. new ≡ old ++ too_long) w1 w2 →
+    WhereTold IsRefused (both l0 w0) (both l1 w2)
 longer_refused l0 None w0 w1 w2 h gains = tt
 longer_refused l0 (Some l1) w0 w1 None h gains = tt
 longer_refused l0 (Some l1) w0 None (Some w2) h gains = absurd gains
 longer_refused None (Some l1) w0 (Some w1) (Some w2) h gains = absurd h
 longer_refused (Some l0) (Some l1) None (Some w1) (Some w2) h gains = absurd h
 longer_refused (Some l0) (Some l1) (Some w0) (Some w1) (Some w2) h gains =
-    inr (record { longer = h.longer; text = h.text; answers = h.answers; written = gains ∙ ap (λ l. l ++ too_long) h.written ∙ append_assoc w0 h.text too_long })
+    inr (record {
+      longer = h.longer;
+      text = h.text;
+      answers = h.answers;
+      written = gains ∙ ap (λ l. l ++ too_long) h.written
+          ∙ append_assoc w0 h.text too_long;
+    })
 
 -- the input is too long, and a front of that was written
-pub longer_broken : (l0 l1 w0 w1 w2 : Option (List ℕ)) → WhereTold IsLongerYet (both l0 w0) (both l1 w1) → WhereTold (GainsFront too_long) w1 w2 → WhereTold IsBrokenOff (both l0 w0) (both l1 w2)
+pub longer_broken : (l0 l1 w0 w1 w2 : Option (List ℕ)) → WhereTold IsLongerYet (both l0 w0) (both l1 w1) → WhereTold (GainsFront too_long) w1 w2 →
+    WhereTold IsBrokenOff (both l0 w0) (both l1 w2)
 longer_broken l0 None w0 w1 w2 h gains = tt
 longer_broken l0 (Some l1) w0 w1 None h gains = tt
 longer_broken l0 (Some l1) w0 None (Some w2) h gains = absurd gains

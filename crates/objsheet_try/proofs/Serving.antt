@@ -1,5 +1,6 @@
 -- One line of the loop over request lines, and several.
-use Rattle.std.proofs.Common.{◌≡◌, ℕ, ◌<◌, ◌≤◌, ◌+◌, ◌-◌, List, [], ◌∷◌, ◌++◌, length, take, false, Some, None, Ok, Err, refl, inl, inr, sym, ap, ◌∙◌, subst, append_assoc, append-nil, arith}
+use Rattle.std.proofs.Common.{◌≡◌, ℕ, ◌<◌, ◌≤◌, ◌+◌, ◌-◌, List, [], ◌∷◌, ◌++◌, length, take, false, Some, None, Ok, Err, refl, inl, inr, sym, ap, ◌∙◌, subst}
+use Rattle.std.proofs.Common.{append_assoc, append-nil, arith}
 use Rattle.std.specs.Prelude.{Option, Result, ◌⊎◌, nat_lt, slice_index, ◌==◌, flat_map, OnOk, OnErr, IfErr}
 use Rattle.std.specs.Str.Lines.{strip_carriage_return}
 use Rattle.std.proofs.lemmas.Bool.{cases_Bool, ltb-true, ltb-false}
@@ -35,7 +36,8 @@ long_step m l k (Page parts) now wide long step = long_act m l k (Page parts, no
 long_step m l k (Wire refusal) now wide long step = long_act m l k (Wire refusal, now) wide long step
 long_step m l k (Refused NoMemory) now wide long step = step
 
-long_run : (m now : Machine) (l k : List ℕ) (text : List ℕ) → 65536 < length l → 65536 < length k → (replies : List Reply) → Run m (l ∷ []) replies now → text ≡ flat_map (written_line m.book) replies → Tells m (k ∷ []) text now
+long_run : (m now : Machine) (l k : List ℕ) (text : List ℕ) → 65536 < length l → 65536 < length k → (replies : List Reply) → Run m (l ∷ []) replies now →
+    text ≡ flat_map (written_line m.book) replies → Tells m (k ∷ []) text now
 long_run m now l k text wide long [] run text_is = absurd run
 long_run m now l k text wide long (reply ∷ []) run text_is =
     record { replies = reply ∷ []; run = (run.0, long_step m l k reply run.0 wide long run.1, run.2); text_is = text_is }
@@ -48,7 +50,8 @@ one : (l : List ℕ) → 0 < length l → unless_empty l ≡ l ∷ []
 one [] h = absurd (omega arith)
 one (c ∷ cs) h = refl
 
-long_unless : (m now : Machine) (l k : List ℕ) (text : List ℕ) → 65536 < length l → 65536 < length k → Tells m (unless_empty l) text now → Tells m (unless_empty k) text now
+long_unless : (m now : Machine) (l k : List ℕ) (text : List ℕ) → 65536 < length l → 65536 < length k → Tells m (unless_empty l) text now →
+    Tells m (unless_empty k) text now
 long_unless m now l k text wide long tells =
     let P : List (List ℕ) → Type 0 = λ ls. Tells m ls text now in
     subst P (sym (one k (omega arith))) (long_tells m now l k text wide long (subst P (one l (omega arith)) tells))
@@ -62,7 +65,8 @@ strip_length l =
     ]
 
 -- the replies to a line of which a front was kept are those to the line
-cut_feed_tells : (m now : Machine) (bytes text : List ℕ) → Tells m (unless_empty (strip_carriage_return (take 65538 bytes))) text now → Tells m (unless_empty (strip_carriage_return bytes)) text now
+cut_feed_tells : (m now : Machine) (bytes text : List ℕ) → Tells m (unless_empty (strip_carriage_return (take 65538 bytes))) text now →
+    Tells m (unless_empty (strip_carriage_return bytes)) text now
 cut_feed_tells m now bytes text tells =
     elim (cases_Bool (nat_lt 65538 (length bytes))) [
       | inl more ↦
@@ -90,20 +94,23 @@ cut_last_tells m now bytes text tells =
 
 -- ---- one line
 
-feed_tells : (m now : Machine) (bytes line text : List ℕ) → HasNoFeed bytes → line ≡ take 65538 bytes → Tells m (unless_empty (strip_carriage_return line)) text now → Tells m (all_said (lines (bytes ++ 10 ∷ []))) text now
+feed_tells : (m now : Machine) (bytes line text : List ℕ) → HasNoFeed bytes → line ≡ take 65538 bytes →
+    Tells m (unless_empty (strip_carriage_return line)) text now → Tells m (all_said (lines (bytes ++ 10 ∷ []))) text now
 feed_tells m now bytes line text none kept tells =
     let P : List ℕ → Type 0 = λ l. Tells m (unless_empty (strip_carriage_return l)) text now in
     let Q : List (List ℕ) → Type 0 = λ ls. Tells m ls text now in
     subst Q (sym (all_said_feed bytes none)) (cut_feed_tells m now bytes text (subst P kept tells))
 
-last_tells : (m now : Machine) (bytes line text : List ℕ) → HasNoFeed bytes → line ≡ take 65538 bytes → Tells m (unless_empty line) text now → Tells m (all_said (lines bytes)) text now
+last_tells : (m now : Machine) (bytes line text : List ℕ) → HasNoFeed bytes → line ≡ take 65538 bytes → Tells m (unless_empty line) text now →
+    Tells m (all_said (lines bytes)) text now
 last_tells m now bytes line text none kept tells =
     let P : List ℕ → Type 0 = λ l. Tells m (unless_empty l) text now in
     let Q : List (List ℕ) → Type 0 = λ ls. Tells m ls text now in
     subst Q (sym (all_said_last bytes none)) (cut_last_tells m now bytes text (subst P kept tells))
 
 -- a line that a line feed ends was answered
-pub feed_served : (E : Type 0) (m now : Machine) (line asked : List ℕ) (l0 l1 w0 w1 : Option (List ℕ)) → asked ≡ strip_carriage_return line → WhereTold (ReadsLine {E = E} 65538 (Ok Feed) line) l0 l1 → WhereTold (Replies m now asked) w0 w1 → WhereTold (ServesLines m now) (both l0 w0) (both l1 w1)
+pub feed_served : (E : Type 0) (m now : Machine) (line asked : List ℕ) (l0 l1 w0 w1 : Option (List ℕ)) → asked ≡ strip_carriage_return line →
+    WhereTold (ReadsLine {E = E} 65538 (Ok Feed) line) l0 l1 → WhereTold (Replies m now asked) w0 w1 → WhereTold (ServesLines m now) (both l0 w0) (both l1 w1)
 feed_served E m now line asked l0 None w0 w1 same reads replies = tt
 feed_served E m now line asked l0 (Some l1) w0 None same reads replies = tt
 feed_served E m now line asked None (Some l1) w0 (Some w1) same reads replies = absurd reads
@@ -124,7 +131,8 @@ feed_served E m now line asked (Some l0) (Some l1) (Some w0) (Some w1) same read
     }
 
 -- a line that the input's end ends was answered
-pub last_served : (E : Type 0) (m now : Machine) (line : List ℕ) (l0 l1 w0 w1 : Option (List ℕ)) → WhereTold (ReadsLine {E = E} 65538 (Ok Input) line) l0 l1 → WhereTold (Replies m now line) w0 w1 → WhereTold (ServesAll m now) (both l0 w0) (both l1 w1)
+pub last_served : (E : Type 0) (m now : Machine) (line : List ℕ) (l0 l1 w0 w1 : Option (List ℕ)) → WhereTold (ReadsLine {E = E} 65538 (Ok Input) line) l0 l1 →
+    WhereTold (Replies m now line) w0 w1 → WhereTold (ServesAll m now) (both l0 w0) (both l1 w1)
 last_served E m now line l0 None w0 w1 reads replies = tt
 last_served E m now line l0 (Some l1) w0 None reads replies = tt
 last_served E m now line None (Some l1) w0 (Some w1) reads replies = absurd reads
@@ -144,7 +152,8 @@ last_served E m now line (Some l0) (Some l1) (Some w0) (Some w1) reads replies =
     }
 
 -- no line is left
-pub none_served : (E : Type 0) (m : Machine) (line : List ℕ) (l0 l1 w : Option (List ℕ)) → WhereTold (ReadsLine {E = E} 65538 (Ok Nothing) line) l0 l1 → WhereTold (ServesAll m m) (both l0 w) (both l1 w)
+pub none_served : (E : Type 0) (m : Machine) (line : List ℕ) (l0 l1 w : Option (List ℕ)) → WhereTold (ReadsLine {E = E} 65538 (Ok Nothing) line) l0 l1 →
+    WhereTold (ServesAll m m) (both l0 w) (both l1 w)
 none_served E m line l0 None w reads = tt
 none_served E m line l0 (Some l1) None reads = tt
 none_served E m line None (Some l1) (Some w) reads = absurd reads
@@ -166,7 +175,8 @@ no_lines m (Some e) =
     }
 
 -- reading stopped
-pub stopped_in_line : (E : Type 0) (m : Machine) (e : E) (line : List ℕ) (l0 l1 w : Option (List ℕ)) → WhereTold (ReadsLine {E = E} 65538 (Err e) line) l0 l1 → WhereTold (Stops m) (both l0 w) (both l1 w)
+pub stopped_in_line : (E : Type 0) (m : Machine) (e : E) (line : List ℕ) (l0 l1 w : Option (List ℕ)) → WhereTold (ReadsLine {E = E} 65538 (Err e) line) l0 l1 →
+    WhereTold (Stops m) (both l0 w) (both l1 w)
 stopped_in_line E m e line l0 None w reads = tt
 stopped_in_line E m e line l0 (Some l1) None reads = tt
 stopped_in_line E m e line None (Some l1) (Some w) reads = absurd reads
@@ -175,7 +185,8 @@ stopped_in_line E m e line (Some l0) (Some l1) (Some w) reads =
     record { now = m; middle = here; lines_served = no_lines m (Some here); part = reads.0; none = reads.2.0; left = reads.2.1; same = refl }
 
 -- the sink failed in the reply to a line that a line feed ends
-pub feed_breaks : (E : Type 0) (m : Machine) (line asked : List ℕ) (l0 l1 w0 w1 : Option (List ℕ)) → asked ≡ strip_carriage_return line → WhereTold (ReadsLine {E = E} 65538 (Ok Feed) line) l0 l1 → WhereTold (RepliesInPart m asked) w0 w1 → WhereTold (Breaks m) (both l0 w0) (both l1 w1)
+pub feed_breaks : (E : Type 0) (m : Machine) (line asked : List ℕ) (l0 l1 w0 w1 : Option (List ℕ)) → asked ≡ strip_carriage_return line →
+    WhereTold (ReadsLine {E = E} 65538 (Ok Feed) line) l0 l1 → WhereTold (RepliesInPart m asked) w0 w1 → WhereTold (Breaks m) (both l0 w0) (both l1 w1)
 feed_breaks E m line asked l0 None w0 w1 same reads replies = tt
 feed_breaks E m line asked l0 (Some l1) w0 None same reads replies = tt
 feed_breaks E m line asked None (Some l1) w0 (Some w1) same reads replies = absurd reads
@@ -195,7 +206,8 @@ feed_breaks E m line asked (Some l0) (Some l1) (Some w0) (Some w1) same reads re
     }
 
 -- the sink failed in the reply to a line that the input's end ends
-pub last_breaks : (E : Type 0) (m : Machine) (line : List ℕ) (l0 l1 w0 w1 : Option (List ℕ)) → WhereTold (ReadsLine {E = E} 65538 (Ok Input) line) l0 l1 → WhereTold (RepliesInPart m line) w0 w1 → WhereTold (Breaks m) (both l0 w0) (both l1 w1)
+pub last_breaks : (E : Type 0) (m : Machine) (line : List ℕ) (l0 l1 w0 w1 : Option (List ℕ)) → WhereTold (ReadsLine {E = E} 65538 (Ok Input) line) l0 l1 →
+    WhereTold (RepliesInPart m line) w0 w1 → WhereTold (Breaks m) (both l0 w0) (both l1 w1)
 last_breaks E m line l0 None w0 w1 reads replies = tt
 last_breaks E m line l0 (Some l1) w0 None reads replies = tt
 last_breaks E m line None (Some l1) w0 (Some w1) reads replies = absurd reads
@@ -219,7 +231,8 @@ pub some_bytes : (l : List ℕ) → (length l == 0) ≡ false → 0 < length l
 some_bytes [] h = cc
 some_bytes (c ∷ cs) h = omega arith
 
-pub replied : (m now : Machine) (line : List ℕ) (reply : Reply) (text : List ℕ) (w0 w1 : Option (List ℕ)) → 0 < length line → Step m line reply now → now.book ≡ m.book → text ≡ written_line m.book reply → WhereTold (λ old written. written ≡ old ++ text) w0 w1 → WhereTold (Replies m now line) w0 w1
+pub replied : (m now : Machine) (line : List ℕ) (reply : Reply) (text : List ℕ) (w0 w1 : Option (List ℕ)) → 0 < length line → Step m line reply now →
+    now.book ≡ m.book → text ≡ written_line m.book reply → WhereTold (λ old written. written ≡ old ++ text) w0 w1 → WhereTold (Replies m now line) w0 w1
 replied m now line reply text w0 None some step book same gains = tt
 replied m now line reply text None (Some w1) some step book same gains = absurd gains
 replied m now line reply text (Some w0) (Some w1) some step book same gains =
@@ -227,7 +240,8 @@ replied m now line reply text (Some w0) (Some w1) some step book same gains =
     let Q : List ℕ → Type 0 = λ t. Tells m (line ∷ []) t now in
     record { text = text; told = subst P (sym (one line some)) (subst Q (sym same) (tells_one m now line reply step)); book = book; written = gains }
 
-pub replied_in_part : (m now : Machine) (line : List ℕ) (reply : Reply) (text : List ℕ) (w0 w1 : Option (List ℕ)) → 0 < length line → Step m line reply now → now.book ≡ m.book → text ≡ written_line m.book reply → WhereTold (GainsFront text) w0 w1 → WhereTold (RepliesInPart m line) w0 w1
+pub replied_in_part : (m now : Machine) (line : List ℕ) (reply : Reply) (text : List ℕ) (w0 w1 : Option (List ℕ)) → 0 < length line → Step m line reply now →
+    now.book ≡ m.book → text ≡ written_line m.book reply → WhereTold (GainsFront text) w0 w1 → WhereTold (RepliesInPart m line) w0 w1
 replied_in_part m now line reply text w0 None some step book same gains = tt
 replied_in_part m now line reply text None (Some w1) some step book same gains = absurd gains
 replied_in_part m now line reply text (Some w0) (Some w1) some step book same gains =
@@ -258,7 +272,12 @@ serves_on m mid now t u a b c cut first next =
 
 lines_on : (m mid now : Machine) (a b c : Ends) → ServesLines m mid a b → ServesLines mid now b c → ServesLines m now a c
 lines_on m mid now a b c first next =
-    record { taken = first.taken ++ next.taken; cut = cut_append first.taken next.taken first.cut next.cut; served = serves_on m mid now first.taken next.taken a b c first.cut first.served next.served }
+    record {
+      taken = first.taken ++ next.taken;
+      cut = cut_append first.taken next.taken first.cut next.cut;
+      served =
+          serves_on m mid now first.taken next.taken a b c first.cut first.served next.served;
+    }
 
 all_on : (m mid now : Machine) (a b c : Ends) → ServesLines m mid a b → ServesAll mid now b c → ServesAll m now a c
 all_on m mid now a b c first next =
@@ -266,15 +285,27 @@ all_on m mid now a b c first next =
 
 stops_on : (m mid : Machine) (a b c : Ends) → ServesLines m mid a b → Stops mid b c → Stops m a c
 stops_on m mid a b c first next =
-    record { now = next.now; middle = next.middle; lines_served = lines_on m mid next.now a b next.middle first next.lines_served; part = next.part; none = next.none; left = next.left; same = next.same }
+    record {
+      now = next.now;
+      middle = next.middle;
+      lines_served = lines_on m mid next.now a b next.middle first next.lines_served;
+      part = next.part;
+      none =
+          next.none;
+      left = next.left;
+      same = next.same;
+    }
 
 cut_on : (t u rest : List ℕ) → IsCut t → IsCut u ⊎ (rest ≡ []) → IsCut (t ++ u) ⊎ (rest ≡ [])
 cut_on t u rest cut (inl more) = inl (cut_append t u cut more)
 cut_on t u rest cut (inr end) = inr end
 
 pub front_on : (a b c t u : List ℕ) → b ≡ a ++ t → GainsFront u b c → GainsFront (t ++ u) a c
-front_on a b c t u first gains =
-    (t ++ gains.0, gains.1 ∙ ap (λ l. l ++ gains.0) first ∙ append_assoc a t gains.0, (gains.2.0, ap (λ l. t ++ l) gains.2.1 ∙ sym (append_assoc t gains.0 gains.2.0)))
+front_on a b c t u first gains = (
+  t ++ gains.0,
+  gains.1 ∙ ap (λ l. l ++ gains.0) first ∙ append_assoc a t gains.0,
+  (gains.2.0, ap (λ l. t ++ l) gains.2.1 ∙ sym (append_assoc t gains.0 gains.2.0)),
+)
 
 breaks_on : (m mid : Machine) (a b c : Ends) → ServesLines m mid a b → Breaks mid b c → Breaks m a c
 breaks_on m mid a b c first next =
@@ -282,29 +313,34 @@ breaks_on m mid a b c first next =
     let u = next.taken in
     let served = first.served in
     let P : List (List ℕ) → Type 0 = λ ls. Tells m ls (served.text ++ next.text) next.last in
-    let both_said : all_said (lines (t ++ u)) ≡ all_said (lines t) ++ all_said (lines u) = ap all_said (first.cut.apart u) ∙ all_said_append (lines t) (lines u) in
+    let both_said : all_said (lines (t ++ u)) ≡ all_said (lines t) ++ all_said (lines u) = ap all_said (first.cut.apart u)
+    ∙ all_said_append (lines t) (lines u) in
     record {
       taken = t ++ u;
       left = served.left ∙ ap (λ l. t ++ l) next.left ∙ sym (append_assoc t u c.left);
       cut = cut_on t u c.left first.cut next.cut;
       text = served.text ++ next.text;
       last = next.last;
-      told = subst P (sym both_said) (tells_append m mid next.last (all_said (lines t)) (all_said (lines u)) served.text next.text served.book served.told next.told);
+      told = subst P (sym both_said) (tells_append m mid next.last (all_said (lines t)) (all_said (lines u)) served.text next.text served.book served.told
+          next.told);
       book = next.book ∙ served.book;
       front = front_on a.written b.written c.written served.text next.text served.written next.front;
     }
 
-told_then : {A B C : Type 0} (P : A → B → Type 0) (Q : B → C → Type 0) (R : A → C → Type 0) (first : Option A) (next : Option B) (last : Option C) → WhereTold P first next → WhereTold Q next last
+told_then : {A B C : Type 0} (P : A → B → Type 0) (Q : B → C → Type 0) (R : A → C → Type 0) (first : Option A) (next : Option B) (last : Option C) →
+    WhereTold P first next → WhereTold Q next last
     → ((x : A) (y : B) (z : C) → P x y → Q y z → R x z) → WhereTold R first last
 told_then P Q R first next None told more f = tt
 told_then P Q R first None (Some last) told more f = absurd more
 told_then P Q R None (Some next) (Some last) told more f = absurd told
 told_then P Q R (Some first) (Some next) (Some last) told more f = f first next last told more
 
-pub lines_then : (m mid now : Machine) (a b c : Option Ends) → WhereTold (ServesLines m mid) a b → WhereTold (ServesLines mid now) b c → WhereTold (ServesLines m now) a c
+pub lines_then : (m mid now : Machine) (a b c : Option Ends) → WhereTold (ServesLines m mid) a b → WhereTold (ServesLines mid now) b c →
+    WhereTold (ServesLines m now) a c
 lines_then m mid now a b c first next = told_then (ServesLines m mid) (ServesLines mid now) (ServesLines m now) a b c first next (lines_on m mid now)
 
-pub all_then : (m mid now : Machine) (a b c : Option Ends) → WhereTold (ServesLines m mid) a b → WhereTold (ServesAll mid now) b c → WhereTold (ServesAll m now) a c
+pub all_then : (m mid now : Machine) (a b c : Option Ends) → WhereTold (ServesLines m mid) a b → WhereTold (ServesAll mid now) b c →
+    WhereTold (ServesAll m now) a c
 all_then m mid now a b c first next = told_then (ServesLines m mid) (ServesAll mid now) (ServesAll m now) a b c first next (all_on m mid now)
 
 pub stops_then : (m mid : Machine) (a b c : Option Ends) → WhereTold (ServesLines m mid) a b → WhereTold (Stops mid) b c → WhereTold (Stops m) a c
@@ -314,12 +350,17 @@ pub breaks_then : (m mid : Machine) (a b c : Option Ends) → WhereTold (ServesL
 breaks_then m mid a b c first next = told_then (ServesLines m mid) (Breaks mid) (Breaks m) a b c first next (breaks_on m mid)
 
 -- the counts of two reads add up
-pub counts_then : (u v x : ℕ) (a b c : Option (List ℕ)) → WhereTold (λ old new. v + length new ≡ u + length old) a b → WhereTold (λ old new. x + length new ≡ v + length old) b c → WhereTold (λ old new. x + length new ≡ u + length old) a c
-counts_then u v x a b c first next = told_then (λ old new. v + length new ≡ u + length old) (λ old new. x + length new ≡ v + length old) (λ old new. x + length new ≡ u + length old) a b c first next (λ p q r h k. k ∙ h)
+pub counts_then : (u v x : ℕ) (a b c : Option (List ℕ)) → WhereTold (λ old new. v + length new ≡ u + length old) a b →
+    WhereTold (λ old new. x + length new ≡ v + length old) b c → WhereTold (λ old new. x + length new ≡ u + length old) a c
+counts_then u v x a b c first next =
+    told_then (λ old new. v + length new ≡ u + length old) (λ old new. x + length new ≡ v + length old) (λ old new. x + length new ≡ u + length old) a b c first
+    next (λ p q r h k. k ∙ h)
 
 -- the end of the input stays its end
-pub end_then : (u v : ℕ) (a b c : Option (List ℕ)) → WhereTold (λ old new. v + length new ≡ u + length old) a b → WhereTold (λ old new. new ≡ []) b c → WhereTold (λ old new. new ≡ []) a c
-end_then u v a b c first next = told_then (λ old new. v + length new ≡ u + length old) (λ old new. new ≡ []) (λ old new. new ≡ []) a b c first next (λ p q r h k. k)
+pub end_then : (u v : ℕ) (a b c : Option (List ℕ)) → WhereTold (λ old new. v + length new ≡ u + length old) a b → WhereTold (λ old new. new ≡ []) b c →
+    WhereTold (λ old new. new ≡ []) a c
+end_then u v a b c first next =
+    told_then (λ old new. v + length new ≡ u + length old) (λ old new. new ≡ []) (λ old new. new ≡ []) a b c first next (λ p q r h k. k)
 
 -- what holds of what an answer tells
 pub on_ok : {T E : Type 0} (r : Result T E) (P Q : Type 0) → OnOk r P → (P → Q) → OnOk r Q

@@ -239,7 +239,10 @@ fn left_fault(fault: Fault, second: &Result<bool, Fault>) -> Result<bool, Fault>
         Ok(_) => Err(fault),
         Err(Fault::Cycle) => Err(Fault::Cycle),
         Err(
-            Fault::NotOne(_, _) | Fault::Overflow(_) | Fault::ZeroDivisor(_) | Fault::TextTooLong(_),
+            Fault::NotOne(_, _)
+            | Fault::Overflow(_)
+            | Fault::ZeroDivisor(_)
+            | Fault::TextTooLong(_),
         ) => Err(fault),
     }
 }

@@ -78,7 +78,9 @@ abbrev the_root : LiveObject
 the_root = record { number = 0; column = 0; parent = None }
 
 -- the state at the start
-pub root_alone : (schema : Schema) (objects none : List LiveObject) (cells empty : List StoredCell) (under columns : List StateColumn) → under ≡ columns → columns ≡ columns_under schema.columns 0 → empty ≡ [] → cells ≡ empty ++ map (new_cell 0) under → none ≡ [] → objects ≡ none ++ the_root ∷ [] → record { objects = objects; cells = cells; next = 1 } ≡ start_state schema
+pub root_alone : (schema : Schema) (objects none : List LiveObject) (cells empty : List StoredCell) (under columns : List StateColumn) → under ≡ columns →
+    columns ≡ columns_under schema.columns 0 → empty ≡ [] → cells ≡ empty ++ map (new_cell 0) under → none ≡ [] → objects ≡ none ++ the_root ∷ [] →
+    record { objects = objects; cells = cells; next = 1 } ≡ start_state schema
 root_alone schema objects none cells empty under columns same these no_cells made no_objects new =
     ap (λ (l : List LiveObject). let t : State = record { objects = l; cells = cells; next = 1 } in
     t) (new ∙ ap (λ (l : List LiveObject). l ++ the_root ∷ []) no_objects)

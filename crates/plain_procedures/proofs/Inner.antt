@@ -12,7 +12,8 @@ use Rattle.sheet_columns.specs.declared.statement.Statements.{Statements}
 use Rattle.sheet_meaning.specs.declared.refusal.Refusal.{Refusal}
 use Rattle.sheet_meaning.specs.declared.workbook.Schema.{Schema}
 use Rattle.sheet_meaning.specs.Formula.{truth}
-use Rattle.sheet_meaning.specs.Statements.{Point, Course, next, formula, from_run, ended, with_variable, is_present, still, course_ended, course_turns, course_block, run_statement, run_block, run_statements}
+use Rattle.sheet_meaning.specs.Statements.{Point, Course, next, formula, from_run, ended, with_variable, is_present, still, course_ended, course_turns}
+use Rattle.sheet_meaning.specs.Statements.{course_block, run_statement, run_block, run_statements}
 use Rattle.plain_meaning.specs.declared.stop.Stop.{Stop}
 use Rattle.plain_procedures.specs.declared.point.PlainPoint.{PlainPoint}
 use Rattle.plain_procedures.specs.Points.{as_point, Ends, GoesOn}
@@ -27,7 +28,9 @@ block_listed (more_of-CoreStatement x rest) s p = ap (next (run_statement x s p)
 turns_end : (body : Point → Course) (xs : List Value) (p : Point) → (course_turns body xs p).end ≡ turns (λ q. (body q).end) xs p
 turns_end body [] p = refl
 turns_end body (x ∷ xs) p =
-    elim (is_present p.state x) as (λ b. next (if b then course_ended p (body (with_variable p (x ∷ []))) else still p (Ok p)).end (λ q. (course_turns body xs q).end) ≡ next (if b then ended p (body (with_variable p (x ∷ []))).end else Ok p) (turns (λ q. (body q).end) xs)) [
+    elim (is_present p.state x)
+    as (λ b. next (if b then course_ended p (body (with_variable p (x ∷ []))) else still p (Ok p)).end (λ q. (course_turns body xs q).end) ≡ next
+    (if b then ended p (body (with_variable p (x ∷ []))).end else Ok p) (turns (λ q. (body q).end) xs)) [
       | true ↦ ap (next (ended p (body (with_variable p (x ∷ []))).end)) (fun_ext (λ q. turns_end body xs q))
       | false ↦ turns_end body xs p
     ]

@@ -16,7 +16,8 @@ pub record Has (n : List Node) (c : ℕ) (fs : List (Option Core)) (j : ℕ) (w 
   pub within : j < length fs
   pub has : HasFormula n c w formula
 
-pub had : (n : List Node) (c : ℕ) (ms : List Node) (fs : List (Option Core)) (j : ℕ) (w : Column) → HaveFormulas n c ms fs → column_of ms j ≡ Some w → Has n (c + j) fs j w
+pub had : (n : List Node) (c : ℕ) (ms : List Node) (fs : List (Option Core)) (j : ℕ) (w : Column) → HaveFormulas n c ms fs → column_of ms j ≡ Some w →
+    Has n (c + j) fs j w
 had n c [] [] j w all got = cc
 had n c [] (f ∷ fs) j w all got = cc
 had n c (m ∷ ms) [] j w all got = search rules
@@ -39,11 +40,13 @@ pub record Found (n : List Node) (fs : List (Option Core)) (c : ℕ) : Type 0 wh
   pub within : c < length fs
   pub typed : IsFormulaOf n c values formula
 
-found_by : (n : List Node) (fs : List (Option Core)) (c : ℕ) (k : Kind) (f : Option Core) → column_of n c ≡ Some (column.Formula k) → slice_get fs c ≡ Some f → c < length fs → HasFormula n c (column.Formula k) f → Found n fs c
+found_by : (n : List Node) (fs : List (Option Core)) (c : ℕ) (k : Kind) (f : Option Core) → column_of n c ≡ Some (column.Formula k) → slice_get fs c ≡ Some f →
+    c < length fs → HasFormula n c (column.Formula k) f → Found n fs c
 found_by n fs c k None is at within has = search rules
 found_by n fs c k (Some e) is at within has = record { values = k; is = is; formula = e; at = at; within = within; typed = has }
 
-found_at : (n : List Node) (fs : List (Option Core)) (c : ℕ) (w : Option Column) → column_of n c ≡ w → HaveFormulas n 0 n fs → is_formula w ≡ true → Found n fs c
+found_at : (n : List Node) (fs : List (Option Core)) (c : ℕ) (w : Option Column) → column_of n c ≡ w → HaveFormulas n 0 n fs → is_formula w ≡ true →
+    Found n fs c
 found_at n fs c None is all formula = cc
 found_at n fs c (Some column.Object) is all formula = cc
 found_at n fs c (Some (column.State k one first)) is all formula = cc

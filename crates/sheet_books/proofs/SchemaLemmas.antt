@@ -26,7 +26,8 @@ one n c (column.Formula k) None h fs ns e = absurd h
 one n c (column.Formula k) (Some core) h fs ns e = ap (λ l. c ∷ l) e
 
 all : (n : List Node) (c : ℕ) (ms : List Node) (fs : List (Option Core)) → HaveFormulas n c ms fs
-    → numbers (filter_map (λ (x : ℕ × Option Core). numbered_formula x.0 x.1) (enumerate_from c fs)) ≡ filter_map (λ (x : ℕ × Node). as_formula x.0 x.1.column) (enumerate_from c ms)
+    → numbers (filter_map (λ (x : ℕ × Option Core). numbered_formula x.0 x.1) (enumerate_from c fs)) ≡ filter_map (λ (x : ℕ × Node). as_formula x.0 x.1.column)
+    (enumerate_from c ms)
 all n c [] [] h = refl
 all n c [] (f ∷ fs) h = absurd h
 all n c (m ∷ ms) [] h = absurd h

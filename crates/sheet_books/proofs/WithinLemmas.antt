@@ -1,12 +1,15 @@
 -- The types that well-typed formulas give are those of object columns, as far as they are of objects.
-use Rattle.std.proofs.Common.{rules, ◌≡◌, ℕ, zero, suc, Bool, true, false, ◌&&◌, if◌then◌else◌, List, [], ◌∷◌, ◌++◌, slice_get, slice_index_or, Option, Some, None, refl, subst}
+use Rattle.std.proofs.Common.{rules, ◌≡◌, ℕ, zero, suc, Bool, true, false, ◌&&◌, if◌then◌else◌, List, [], ◌∷◌, ◌++◌, slice_get, slice_index_or, Option, Some}
+use Rattle.std.proofs.Common.{None, refl, subst}
 use Rattle.std.specs.List.{AllByRecursion}
 use Rattle.sheet_values.specs.declared.value.Kind.{Kind}
 use Rattle.sheet_values.specs.declared.value.Kind.TheVariants as kind
 use Rattle.sheet_columns.specs.declared.tree.Column.{Column}
 use Rattle.sheet_columns.specs.declared.tree.Column.TheVariants as column
 use Rattle.sheet_columns.specs.declared.tree.Node.{Node}
-use Rattle.sheet_columns.specs.declared.formula.Core.{Core, Truth, Number, Text, Root, Variable, ObjectStep', StateStep', FormulaStep', Up' as UpStep', Set', Combine', Compare', Order', Arithmetic', Negate', Join', Not', Connect', If', Count', Only', Extreme', Comprehension', Sum', Quantify', Row_of-Core, end_of-Core as end, more_of-Core as more}
+use Rattle.sheet_columns.specs.declared.formula.Core.{Core, Truth, Number, Text, Root, Variable, ObjectStep', StateStep', FormulaStep', Up' as UpStep', Set'}
+use Rattle.sheet_columns.specs.declared.formula.Core.{Combine', Compare', Order', Arithmetic', Negate', Join', Not', Connect', If', Count', Only', Extreme'}
+use Rattle.sheet_columns.specs.declared.formula.Core.{Comprehension', Sum', Quantify', Row_of-Core, end_of-Core as end, more_of-Core as more}
 use Rattle.sheet_columns.specs.Tree.{column_of, above_of, IsUnder, IsTree}
 use Rattle.sheet_types_rules.specs.Kinds.{same_kind, common, has_order, objects_in}
 use Rattle.sheet_types_rules.specs.Columns.{IsKindIn}
@@ -38,7 +41,8 @@ given n true k m got here = kept n k m got here
 given n false k m got here = search rules
 
 -- an object column that is taken for granted by a test
-tested : (n : List Node) (c : ℕ) (b : Bool) (w : Option Column) (m : Kind) → column_of n c ≡ w → provided (b && is_object w) (kind.Object c) ≡ Some m → IsKindIn n m
+tested : (n : List Node) (c : ℕ) (b : Bool) (w : Option Column) (m : Kind) → column_of n c ≡ w → provided (b && is_object w) (kind.Object c) ≡ Some m →
+    IsKindIn n m
 tested n c true None m is got = search rules
 tested n c true (Some column.Object) m is got = kept n (kind.Object c) m got is
 tested n c true (Some (column.State k one first)) m is got = search rules
@@ -166,7 +170,8 @@ mutual
       let s = came (kind_in c n k v) (λ w. kind_in a n k v >> (λ y. kind_in b n k v >> (λ z. if serves kind.Truth w then common y z else None))) x got in
       let r = came (kind_in a n k v) (λ y. kind_in b n k v >> (λ z. if serves kind.Truth s.from then common y z else None)) x s.gives in
       let q = came (kind_in b n k v) (λ z. if serves kind.Truth s.from then common r.from z else None) x r.gives in
-      common_within n r.from q.from x (within a n k v r.from t ks vs r.is) (within b n k v q.from t ks vs q.is) (branch (serves kind.Truth s.from) (common r.from q.from) x q.gives)
+      common_within n r.from q.from x (within a n k v r.from t ks vs r.is) (within b n k v q.from t ks vs q.is)
+      (branch (serves kind.Truth s.from) (common r.from q.from) x q.gives)
   within (Count' _ (more s end)) n k v x t ks vs got =
       let c = came (kind_in s n k v) (λ y. Some kind.Number) x got in
       kept n kind.Number x c.gives tt
@@ -175,14 +180,18 @@ mutual
       let c = came (kind_in s n k v) (λ y. provided (has_order y) y) x got in
       given n (has_order c.from) c.from x c.gives (within s n k v c.from t ks vs c.is)
   within (Comprehension' _ (more f end) _ (more s end) _ (more p end)) n k v x t ks vs got =
-      let c = came (kind_in s n k v) (λ w. kind_in f n k (v ++ w ∷ []) >> (λ y. kind_in p n k (v ++ w ∷ []) >> (λ z. provided (serves kind.Truth z) y))) x got in
+      let c = came (kind_in s n k v) (λ w. kind_in f n k (v ++ w ∷ []) >> (λ y. kind_in p n k (v ++ w ∷ []) >> (λ z. provided (serves kind.Truth z) y))) x
+      got in
       let r = came (kind_in f n k (v ++ c.from ∷ [])) (λ y. kind_in p n k (v ++ c.from ∷ []) >> (λ z. provided (serves kind.Truth z) y)) x c.gives in
       let q = came (kind_in p n k (v ++ c.from ∷ [])) (λ z. provided (serves kind.Truth z) r.from) x r.gives in
       let inside = with_one n v c.from vs (within s n k v c.from t ks vs c.is) in
       given n (serves kind.Truth q.from) r.from x q.gives (within f n k (v ++ c.from ∷ []) r.from t ks inside r.is)
   within (Sum' _ (more f end) _ (more s end) _ (more p end)) n k v x t ks vs got =
-      let c = came (kind_in s n k v) (λ w. kind_in f n k (v ++ w ∷ []) >> (λ y. kind_in p n k (v ++ w ∷ []) >> (λ z. provided (serves kind.Number y && serves kind.Truth z) kind.Number))) x got in
-      let r = came (kind_in f n k (v ++ c.from ∷ [])) (λ y. kind_in p n k (v ++ c.from ∷ []) >> (λ z. provided (serves kind.Number y && serves kind.Truth z) kind.Number)) x c.gives in
+      let c = came (kind_in s n k v)
+      (λ w. kind_in f n k (v ++ w ∷ []) >> (λ y. kind_in p n k (v ++ w ∷ []) >> (λ z. provided (serves kind.Number y && serves kind.Truth z) kind.Number)))
+      x got in
+      let r = came (kind_in f n k (v ++ c.from ∷ []))
+      (λ y. kind_in p n k (v ++ c.from ∷ []) >> (λ z. provided (serves kind.Number y && serves kind.Truth z) kind.Number)) x c.gives in
       let q = came (kind_in p n k (v ++ c.from ∷ [])) (λ z. provided (serves kind.Number r.from && serves kind.Truth z) kind.Number) x r.gives in
       given n (serves kind.Number r.from && serves kind.Truth q.from) kind.Number x q.gives tt
   within (Quantify' q _ (more s end) _ (more p end)) n k v x t ks vs got =

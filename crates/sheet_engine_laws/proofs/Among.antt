@@ -46,7 +46,8 @@ module _ (w : Workbook) where
   agrees t u (used.Cell o c) h = h (o, c) refl
 
   -- outcomes that agree at what a formula uses give it the same
-  comes_same : (t u : Outcomes) (f : Option FormulaCell) → ((y : Cell) → IsIn y (cells_in (used_by (world w t) f)) → t y.0 y.1 ≡ u y.0 y.1) → comes_to (world w u) f ≡ comes_to (world w t) f
+  comes_same : (t u : Outcomes) (f : Option FormulaCell) → ((y : Cell) → IsIn y (cells_in (used_by (world w t) f)) → t y.0 y.1 ≡ u y.0 y.1) →
+      comes_to (world w u) f ≡ comes_to (world w t) f
   comes_same t u None h = refl
   comes_same t u (Some f) h =
       let us = (run_cell (world w t) f).uses in
@@ -57,7 +58,8 @@ module _ (w : Workbook) where
   in_round : (j : ℕ) (x : Cell) → outcome_after w (suc j) x.0 x.1 ≡ comes_to (world w (outcome_after w j)) (formula_at x)
   in_round j x =
       outcome_by_cell (λ f. (run_cell (world w (outcome_after w j)) f).outcome) (formula_cells w) x
-      ∙ elim (formula_at x) as (λ f. outcome_of (λ g. (run_cell (world w (outcome_after w j)) g).outcome) f ≡ comes_to (world w (outcome_after w j)) f) [ None ↦ refl | Some f ↦ refl ]
+      ∙ elim (formula_at x) as (λ f. outcome_of (λ g. (run_cell (world w (outcome_after w j)) g).outcome) f ≡ comes_to (world w (outcome_after w j)) f)
+      [ None ↦ refl | Some f ↦ refl ]
 
   module _ (cells : List Cell) where
     abbrev own : ℕ → Outcomes
@@ -66,7 +68,9 @@ module _ (w : Workbook) where
     own_grows : (j : ℕ) (o c : ℕ) → IsBelow (own j o c) (own (suc j) o c)
     own_grows zero o c = inl refl
     own_grows (suc j) o c =
-        elim (has_cell cells (o, c)) as (λ b. IsBelow (if b then comes_to (world w (own j)) (formula_at (o, c)) else none) (if b then comes_to (world w (own (suc j))) (formula_at (o, c)) else none)) [
+        elim (has_cell cells (o, c))
+        as (λ b. IsBelow (if b then comes_to (world w (own j)) (formula_at (o, c)) else none)
+        (if b then comes_to (world w (own (suc j))) (formula_at (o, c)) else none)) [
           | true ↦ comes_below (own j) (own (suc j)) (own_grows j) (formula_at (o, c))
           | false ↦ inl refl
         ]
@@ -79,7 +83,8 @@ module _ (w : Workbook) where
 
     module _ (k : ℕ) (local : AreLocal w cells k) where
       -- what a formula uses in an earlier round is among the cells
-      among : (j d : ℕ) → d + j ≡ k → (x y : Cell) → has_cell cells x ≡ true → IsIn y (cells_in (used_by (world w (own j)) (formula_at x))) → has_cell cells y ≡ true
+      among : (j d : ℕ) → d + j ≡ k → (x y : Cell) → has_cell cells x ≡ true → IsIn y (cells_in (used_by (world w (own j)) (formula_at x))) →
+          has_cell cells y ≡ true
       among j d e x y h i =
           let within = used_below (own j) (own k) (λ o c. subst (λ n. IsBelow (own j o c) (own n o c)) e (own_below j d o c)) (formula_at x) in
           local.closed x y h (in_has (cells_in (used_by (world w (own k)) (formula_at x))) y ((within_filter_map cell_in _ _ within).each y i))

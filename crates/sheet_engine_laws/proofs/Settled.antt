@@ -55,7 +55,8 @@ module _ (b : Workbook) (t u : ℕ → ℕ → Outcome (List Value)) (h : (o c :
   none_or_agree (x ∷ us) =
       ⊎_elim
       (λ n. inl (record { which = x; among = inl refl; unsettled = n }))
-      (λ a. ⊎_elim (λ (k : NoneUsed (world b t) us). inl (record { which = k.which; among = inr k.among; unsettled = k.unsettled })) (λ r. inr (a, r)) (none_or_agree us))
+      (λ a. ⊎_elim (λ (k : NoneUsed (world b t) us). inl (record { which = k.which; among = inr k.among; unsettled = k.unsettled })) (λ r. inr (a, r))
+      (none_or_agree us))
       (here x)
 
   -- an expression has no outcome in the first world, or comes to the same in the second
@@ -90,12 +91,15 @@ module _ (w : Workbook) (cells : List Cell) (blocked : AreBlocked w cells) where
       }
 
   -- in a round where none of them has an outcome, a formula that waits for one comes to none
-  in_round : (k : ℕ) → ((y : Cell) → has_cell cells y ≡ true → outcome_after w k y.0 y.1 ≡ none) → (f : FormulaCell) → Waits f → (run_cell (world_at w (table w k)) f).outcome ≡ none
+  in_round : (k : ℕ) → ((y : Cell) → has_cell cells y ≡ true → outcome_after w k y.0 y.1 ≡ none) → (f : FormulaCell) → Waits f →
+      (run_cell (world_at w (table w k)) f).outcome ≡ none
   in_round k so_far f r =
       ⊎_elim
       (λ n. n)
-      (λ same. strict (world_at w (table w k)) (place.Cell f.object f.column) f.core ((Object f.object ∷ []) ∷ []) (used.Cell r.cell.0 r.cell.1) (subst (λ (z : Run (List Value)). IsIn (used.Cell r.cell.0 r.cell.1) z.uses) same r.used_there) (so_far r.cell r.among))
-      (none_or_same w (outcome_in (formula_cells w) (table w k)) (outcome_in (formula_cells w) (table w (rounds w))) (λ o c. below_meaning w o c k) (place.Cell f.object f.column) f.core ((Object f.object ∷ []) ∷ []))
+      (λ same. strict (world_at w (table w k)) (place.Cell f.object f.column) f.core ((Object f.object ∷ []) ∷ []) (used.Cell r.cell.0 r.cell.1)
+      (subst (λ (z : Run (List Value)). IsIn (used.Cell r.cell.0 r.cell.1) z.uses) same r.used_there) (so_far r.cell r.among))
+      (none_or_same w (outcome_in (formula_cells w) (table w k)) (outcome_in (formula_cells w) (table w (rounds w))) (λ o c. below_meaning w o c k)
+      (place.Cell f.object f.column) f.core ((Object f.object ∷ []) ∷ []))
 
   never : (k : ℕ) (x : Cell) → has_cell cells x ≡ true → outcome_after w k x.0 x.1 ≡ none
   never zero x h = none_at_first (formula_cells w) x
@@ -141,7 +145,8 @@ module _ (w : Workbook) (found : Found) (settled : AreSettled w found) where
     pub needed_read : (x : Cell) → has_cell (cells_in (run e (world_found w found) p v).uses) x ≡ true → has_cell (cells_in (settled_run w e p v).uses) x ≡ true
     needed_read x h =
         in_has _ x
-        ((within_filter_map cell_in _ _ (run_below w (λ o c. or_none (found o c)) (outcome_in (formula_cells w) (table w (rounds w))) below_found p e v).uses).each x (has_in _ x h))
+        ((within_filter_map cell_in _ _ (run_below w (λ o c. or_none (found o c)) (outcome_in (formula_cells w) (table w (rounds w))) below_found p e
+        v).uses).each x (has_in _ x h))
 
 pub found_results_settle : FoundSettle
 found_results_settle w found e p v settled h = found_settle w found settled e p v h
@@ -150,7 +155,8 @@ pub needed_are_read : NeededAreRead
 needed_are_read w found e p v x settled h = needed_read w found settled e p v x h
 
 -- each of the started cells from a place on reads one of all
-each_reads : (w : Workbook) (all cells : List Cell) (y : Cell) → ((z : Cell) → IsIn z cells → IsIn z all) → IsIn y all → Chained w cells → LastReads w cells y → (x : Cell) → IsIn x cells → ReadsOne w all x
+each_reads : (w : Workbook) (all cells : List Cell) (y : Cell) → ((z : Cell) → IsIn z cells → IsIn z all) → IsIn y all → Chained w cells → LastReads w cells y →
+    (x : Cell) → IsIn x cells → ReadsOne w all x
 each_reads w all [] y within among chained last x h = absurd h
 each_reads w all (x ∷ []) y within among chained last z h =
     ⊎_elim
@@ -159,7 +165,12 @@ each_reads w all (x ∷ []) y within among chained last z h =
     h
 each_reads w all (x ∷ next ∷ cells) y within among chained last z h =
     ⊎_elim
-    (λ e. record { cell = next; among = in_has all next (within next (inr (inl refl))); read = subst (λ k. has_cell (cells_read w k) next ≡ true) (sym e) chained.0 })
+    (λ e. record {
+      cell = next;
+      among = in_has all next (within next (inr (inl refl)));
+      read =
+          subst (λ k. has_cell (cells_read w k) next ≡ true) (sym e) chained.0;
+    })
     (λ k. each_reads w all (next ∷ cells) y (λ v i. within v (inr i)) among chained.1 last z k)
     h
 

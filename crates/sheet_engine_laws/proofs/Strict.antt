@@ -10,7 +10,8 @@ use Rattle.sheet_columns.specs.declared.formula.Connective.{Connective}
 use Rattle.sheet_columns.specs.declared.formula.Core.{Core}
 use Rattle.sheet_meaning.specs.declared.run.Use.{Use}
 use Rattle.sheet_meaning.specs.declared.run.Use.TheVariants.{Read, Cell}
-use Rattle.sheet_meaning.specs.Run.{Outcome, none, is_none, given, done, after, run_after, both_outcomes, finish, and_then, both, decides, second_after_fault, second_truth, connect}
+use Rattle.sheet_meaning.specs.Run.{Outcome, none, is_none, given, done, after, run_after, both_outcomes, finish, and_then, both, decides, second_after_fault}
+use Rattle.sheet_meaning.specs.Run.{second_truth, connect}
 use Rattle.sheet_meaning.specs.Formula.{World, Variables, run, live_reads}
 use Rattle.sheet_meaning.proofs.Members.{IsIn, in_either}
 use Rattle.sheet_meaning.proofs.Relation.{IsKept, HoldsAtReads, behind_fault, second_part, as_part, related}
@@ -74,7 +75,8 @@ module _ (w : World) where
   after_fault e q t h =
       let parts = finishes (λ (x : Bool × Bool). Ok x.1) _ _ (boths (given (Err e)) (given (Err e)) q t (nothing_used {A = Bool} (Err e) _) h) in
       let one_side = subst (λ r. Strict Bool r (second_part e t)) (as_part e q) parts in
-      chosen (given (Err e)) (given (Err e)) (behind_fault e q) (behind_fault e t) (nothing_used (Err e) _) (subst (λ r. Strict Bool (behind_fault e q) r) (as_part e t) one_side) (is_none e)
+      chosen (given (Err e)) (given (Err e)) (behind_fault e q) (behind_fault e t) (nothing_used (Err e) _)
+      (subst (λ r. Strict Bool (behind_fault e q) r) (as_part e t) one_side) (is_none e)
 
   second_strict : (c : Connective) (q t : Run Bool) → Strict Bool q t → (o : Outcome Bool) → Strict Bool (second_truth c o q) (second_truth c o t)
   second_strict c q t h (Ok a) = chosen (done a) (done a) q t (nothing_used (Ok a) (done a)) h (decides c a)

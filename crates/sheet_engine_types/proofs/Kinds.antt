@@ -1,5 +1,6 @@
 -- Sets of types that agree.
-use Rattle.std.proofs.Common.{◌≡◌, refl, sym, ap, ◌∙◌, subst, inl, inr, ⊎_elim, ℕ, ◌+◌, zero, suc, Bool, true, false, cond, List, [], ◌∷◌, ◌++◌, Option, Some, None}
+use Rattle.std.proofs.Common.{◌≡◌, refl, sym, ap, ◌∙◌, subst, inl, inr, ⊎_elim, ℕ, ◌+◌, zero, suc, Bool, true, false, cond, List, [], ◌∷◌, ◌++◌, Option, Some}
+use Rattle.std.proofs.Common.{None}
 use Rattle.std.specs.Prelude.{◌⊎◌, ◌==◌, ◌&&◌, if◌then◌else◌, fold, filter, slice_get, slice_index_or, is_some}
 use Rattle.std.specs.List.{AllByRecursion}
 use Rattle.std.specs.declared.cmp.Ordering.TheVariants.{Less, Equal, Greater}
@@ -22,7 +23,8 @@ use Rattle.sheet_engine_types.specs.Typed.{IsTyped, MayHave, IsHeld, HaveTypes}
 
 pub filter_all : {A : Type 0} (P : A → Type 0) (p : A → Bool) (xs : List A) → AllByRecursion P xs → AllByRecursion P (filter p xs)
 filter_all P p [] h = tt
-filter_all P p (x ∷ xs) h = elim (p x) as (λ b. AllByRecursion P (cond b (x ∷ filter p xs) (filter p xs))) [ true ↦ (h.0, filter_all P p xs h.1) | false ↦ filter_all P p xs h.1 ]
+filter_all P p (x ∷ xs) h =
+    elim (p x) as (λ b. AllByRecursion P (cond b (x ∷ filter p xs) (filter p xs))) [ true ↦ (h.0, filter_all P p xs h.1) | false ↦ filter_all P p xs h.1 ]
 
 pub all_mono : {A : Type 0} (P Q : A → Type 0) → ((x : A) → P x → Q x) → (xs : List A) → AllByRecursion P xs → AllByRecursion Q xs
 all_mono P Q f [] h = tt
@@ -153,11 +155,13 @@ module _ (s : State) where
   fold_typed k b [] h g = h
   fold_typed k b (x ∷ sets) h g = fold_typed k (union b x) sets (union_typed k b x h g.0) g.1
 
-  joined_typed : (k : Kind) (parts : List (List (List Value))) → AllByRecursion (AllByRecursion (IsTyped s k)) parts → AllByRecursion (IsTyped s k) (joined parts)
+  joined_typed : (k : Kind) (parts : List (List (List Value))) → AllByRecursion (AllByRecursion (IsTyped s k)) parts →
+      AllByRecursion (IsTyped s k) (joined parts)
   joined_typed k [] h = tt
   joined_typed k (x ∷ parts) h = all_both (IsTyped s k) x (joined parts) h.0 (joined_typed k parts h.1)
 
-  pub parts_typed : (k : Kind) (parts : List (List (List Value))) → AllByRecursion (AllByRecursion (IsTyped s k)) parts → IsTyped s k (fold union [] (joined parts))
+  pub parts_typed : (k : Kind) (parts : List (List (List Value))) → AllByRecursion (AllByRecursion (IsTyped s k)) parts →
+      IsTyped s k (fold union [] (joined parts))
   parts_typed k parts h = fold_typed k [] (joined parts) (tt, tt) (joined_typed k parts h)
 
   -- a variable's type by position
@@ -176,7 +180,8 @@ module _ (s : State) where
   may_have k v h = absurd h
 
   -- one variable more
-  pub more_types : (ks : List Kind) (v : List (List Value)) (k : Kind) (set : List Value) → HaveTypes s ks v → IsHeld s k set → HaveTypes s (ks ++ k ∷ []) (v ++ set ∷ [])
+  pub more_types : (ks : List Kind) (v : List (List Value)) (k : Kind) (set : List Value) → HaveTypes s ks v → IsHeld s k set →
+      HaveTypes s (ks ++ k ∷ []) (v ++ set ∷ [])
   more_types [] [] k set h g = (g, tt)
   more_types [] (x ∷ v) k set h g = absurd h
   more_types (l ∷ ks) [] k set h g = absurd h

@@ -186,5 +186,5 @@ last_is b s e (Some j) ordered inside x =
       sym byte ∙ eqb-true (get_or (slice_range b s e) j 0) 10 x.1,
       λ k low high is.
           x.0.after (k - s) (omega (arith, low)) (omega (arith, low, high, part_length b s e ordered inside))
-              (feed_passes b s e k (omega (arith, low)) high is),
+          (feed_passes b s e k (omega (arith, low)) high is),
     )

@@ -19,9 +19,11 @@ same_front x y r s fit_x fit_y e =
     ∙ from_be_bytes-to_be_bytes_4 (length y.payload) (omega (arith, fit_y)) in
     let kind : x.kind ≡ y.kind = ap (λ (l : List ℕ). get_or l 5 0) e in
     let rest : x.payload ++ r ≡ y.payload ++ s = ap (λ (l : List ℕ). drop 6 l) e in
-    let payload : x.payload ≡ y.payload = sym (take_at x.payload r (length x.payload) refl) ∙ ap (λ (l : List ℕ). take (length x.payload) l) rest ∙ take_at y.payload s (length x.payload) (sym long) in (
+    let payload : x.payload ≡ y.payload = sym (take_at x.payload r (length x.payload) refl) ∙ ap (λ (l : List ℕ). take (length x.payload) l) rest
+    ∙ take_at y.payload s (length x.payload) (sym long) in (
       ap (λ k. record { kind = k; payload = x.payload }) kind ∙ ap (λ (p : List ℕ). record { kind = y.kind; payload = p }) payload,
-      sym (drop_at x.payload r (length x.payload) refl) ∙ ap (λ (l : List ℕ). drop (length x.payload) l) rest ∙ drop_at y.payload s (length x.payload) (sym long),
+      sym (drop_at x.payload r (length x.payload) refl) ∙ ap (λ (l : List ℕ). drop (length x.payload) l) rest
+          ∙ drop_at y.payload s (length x.payload) (sym long),
     )
 
 abbrev first : List ℕ → ℕ
@@ -55,17 +57,21 @@ record IsFollowed (l : List ℕ) (entry : Entry) : Type 0 where
   is : l ≡ (1 ∷ body entry) ++ gate ∷ rest
   fits : length entry.payload ≤ limit
 
-followed : (entry : Entry) (more : List Entry) (h : ℕ) (s l : List ℕ) → length entry.payload ≤ limit → l ≡ (1 ∷ body entry) ++ (layout more ++ h ∷ s) → IsFollowed l entry
+followed : (entry : Entry) (more : List Entry) (h : ℕ) (s l : List ℕ) → length entry.payload ≤ limit → l ≡ (1 ∷ body entry) ++ (layout more ++ h ∷ s) →
+    IsFollowed l entry
 followed entry [] h s l fits is = record { gate = h; rest = s; is = is; fits = fits }
-followed entry (m ∷ more) h s l fits is = record { gate = 1; rest = body m ++ (layout more ++ h ∷ s); is = is ∙ ap (λ (t : List ℕ). (1 ∷ body entry) ++ t) (regroup m more (h ∷ s)); fits = fits }
+followed entry (m ∷ more) h s l fits is =
+    record { gate = 1; rest = body m ++ (layout more ++ h ∷ s); is = is ∙ ap (λ (t : List ℕ). (1 ∷ body entry) ++ t) (regroup m more (h ∷ s)); fits = fits }
 
 -- where the gate behind some records is open, a whole record stands there
-next_whole : (xs ys : List Entry) (g h : ℕ) (r s : List ℕ) → g ≡ 1 → h ≢ 1 → AllFit xs → AllFit ys → layout xs ++ g ∷ r ≡ layout ys ++ h ∷ s → (entry : Entry) × IsFollowed (g ∷ r) entry
+next_whole : (xs ys : List Entry) (g h : ℕ) (r s : List ℕ) → g ≡ 1 → h ≢ 1 → AllFit xs → AllFit ys → layout xs ++ g ∷ r ≡ layout ys ++ h ∷ s →
+    (entry : Entry) × IsFollowed (g ∷ r) entry
 next_whole [] [] g h r s opened shut fit_x fit_y e = absurd (shut (sym (ap first e) ∙ opened))
 next_whole [] (y ∷ ys) g h r s opened shut fit_x fit_y e = (y, followed y ys h s (g ∷ r) fit_y.0 (e ∙ regroup y ys (h ∷ s)))
 next_whole (x ∷ xs) [] g h r s opened shut fit_x fit_y e = absurd (shut (ap first (sym e ∙ regroup x xs (g ∷ r))))
 next_whole (x ∷ xs) (y ∷ ys) g h r s opened shut fit_x fit_y e =
-    next_whole xs ys g h r s opened shut fit_x.1 fit_y.1 (same_front x y (layout xs ++ g ∷ r) (layout ys ++ h ∷ s) fit_x.0 fit_y.0 (sym (regroup x xs (g ∷ r)) ∙ e ∙ regroup y ys (h ∷ s))).1
+    next_whole xs ys g h r s opened shut fit_x.1 fit_y.1
+    (same_front x y (layout xs ++ g ∷ r) (layout ys ++ h ∷ s) fit_x.0 fit_y.0 (sym (regroup x xs (g ∷ r)) ∙ e ∙ regroup y ys (h ∷ s))).1
 
 some_same : (a b : List ℕ) → Some (at_rest a) ≡ Some (at_rest b) → a ≡ b
 some_same a b e = ap (λ (f : Option File). seen_of f) e
@@ -74,13 +80,15 @@ some_same a b e = ap (λ (f : Option File). seen_of f) e
     seen_of None = []
     seen_of (Some f) = f.seen
 
-pub not_cut_short : (bytes : List ℕ) (front all : List Entry) (place : ℕ) → Reaches bytes front place → IsCutShort (Some (at_rest bytes)) place → IsImage bytes all → ⊥
+pub not_cut_short : (bytes : List ℕ) (front all : List Entry) (place : ℕ) → Reaches bytes front place → IsCutShort (Some (at_rest bytes)) place →
+    IsImage bytes all → ⊥
 not_cut_short bytes front all place r cut image =
     let s = image.1.reaches in
     let here = gate_at front place bytes r in
     let same : bytes ≡ cut.bytes = some_same bytes cut.bytes cut.is in
     let opened : r.gate ≡ 1 = ap first (sym (ap (λ (l : List ℕ). take 1 l) here) ∙ ap (λ (l : List ℕ). take 1 (drop place l)) same ∙ cut.opened) in
-    let n = next_whole front all r.gate s.gate r.rest s.rest opened image.1.closed r.fit s.fit (sym (behind_magic bytes front place r) ∙ behind_magic bytes all image.0 s) in
+    let n = next_whole front all r.gate s.gate r.rest s.rest opened image.1.closed r.fit s.fit (sym (behind_magic bytes front place r)
+    ∙ behind_magic bytes all image.0 s) in
     cut.none n.0 (record { gate = n.1.gate; rest = n.1.rest; is = ap (λ (l : List ℕ). drop place l) (sym same) ∙ here ∙ n.1.is; fits = n.1.fits })
 
 -- what a crash leaves of a file of which whatever it may leave has Q
@@ -90,5 +98,6 @@ left_of Q None (Some bytes) w l = absurd l
 left_of Q (Some file) left w l = w.1 left l
 
 -- and at some moment of a call
-pub left_throughout : (Q : Option (List ℕ) → Type 0) (of : List ℕ) (x y : Contents) (left : Option (List ℕ)) → Keeps of (Whatever Q) x y → MayHaveLeft y (length x.past) of left → Q left
+pub left_throughout : (Q : Option (List ℕ) → Type 0) (of : List ℕ) (x y : Contents) (left : Option (List ℕ)) → Keeps of (Whatever Q) x y →
+    MayHaveLeft y (length x.past) of left → Q left
 left_throughout Q of x y left k m = left_of Q (files_at y m.0 of) left (k.moments.each m.0 m.1).0 m.2

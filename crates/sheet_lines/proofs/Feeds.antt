@@ -1,5 +1,6 @@
 -- Where the first line feed is, and what the front and the rest of a piece are.
-use Rattle.std.proofs.Common.{◌≡◌, ℕ, suc, ◌+◌, ◌-◌, ◌<◌, ◌≤◌, List, [], ◌∷◌, ◌++◌, length, take, drop, false, cond, Some, None, refl, sym, ap, ◌∙◌, subst, inl, inr, add-one, append_assoc, arith}
+use Rattle.std.proofs.Common.{◌≡◌, ℕ, suc, ◌+◌, ◌-◌, ◌<◌, ◌≤◌, List, [], ◌∷◌, ◌++◌, length, take, drop, false, cond, Some, None, refl, sym, ap, ◌∙◌, subst, inl}
+use Rattle.std.proofs.Common.{inr, add-one, append_assoc, arith}
 use Rattle.std.specs.Prelude.{Option, ◌==◌, nat_lt}
 use Rattle.std.specs.List.{position, position_or_len}
 use Rattle.std.proofs.lemmas.Bool.{cases_Bool, eqb-true, ltb-true, ltb-false}
@@ -10,7 +11,8 @@ use Rattle.sheet_lines.specs.Lines.{has_feed}
 use Rattle.sheet_lines.specs.Reading.{HasNoFeed, IsFirstFeed}
 
 -- using the front of what is ahead in a piece
-pub advanced : (items : List ℕ) (at end count : ℕ) → count ≤ end - at → take (end - (at + count)) (drop (at + count) items) ≡ drop count (take (end - at) (drop at items))
+pub advanced : (items : List ℕ) (at end count : ℕ) → count ≤ end - at →
+    take (end - (at + count)) (drop (at + count) items) ≡ drop count (take (end - at) (drop at items))
 advanced items at end count within =
     let more = end - (at + count) in
     let parts : end - at ≡ count + more = omega arith in
@@ -65,20 +67,24 @@ found bytes at here =
 
 -- the first byte that is a line feed is the first line feed
 pub position_is_first : (bytes : List ℕ) (result : Option ℕ) → result ≡ position (λ c. c == 10) bytes → IsFirstFeed bytes result
-position_is_first bytes result same = let P : Option ℕ → Type 0 = λ o. IsFirstFeed bytes o in subst P (sym same) (found bytes (position_or_len (λ c. c == 10) bytes) (sym (place_found bytes)))
+position_is_first bytes result same = let P : Option ℕ → Type 0 = λ o. IsFirstFeed bytes o in
+    subst P (sym same) (found bytes (position_or_len (λ c. c == 10) bytes) (sym (place_found bytes)))
 
 -- a window on what is ahead, up to its first line feed
-pub feed_ahead : (ahead front new : List ℕ) (n at : ℕ) → front ≡ take n ahead → Some at ≡ position (λ c. c == 10) front → new ≡ drop (at + 1) ahead → HasNoFeed (take at front) × (ahead ≡ take at front ++ 10 ∷ new)
+pub feed_ahead : (ahead front new : List ℕ) (n at : ℕ) → front ≡ take n ahead → Some at ≡ position (λ c. c == 10) front → new ≡ drop (at + 1) ahead →
+    HasNoFeed (take at front) × (ahead ≡ take at front ++ 10 ∷ new)
 feed_ahead ahead front new n at window first rest =
     let here = position_is_first front (Some at) first in
     let whole : ahead ≡ front ++ drop n ahead = sym (ap (λ l. l ++ drop n ahead) window ∙ take-append-drop n ahead) in
     let behind : new ≡ drop (at + 1) front ++ drop n ahead = rest ∙ ap (drop (at + 1)) whole ∙ drop-append-le (at + 1) front (drop n ahead) (omega arith) in (
       here.0,
-      whole ∙ ap (λ l. l ++ drop n ahead) here.2 ∙ append_assoc (take at front) (10 ∷ drop (at + 1) front) (drop n ahead) ∙ ap (λ l. take at front ++ 10 ∷ l) (sym behind),
+      whole ∙ ap (λ l. l ++ drop n ahead) here.2 ∙ append_assoc (take at front) (10 ∷ drop (at + 1) front) (drop n ahead)
+          ∙ ap (λ l. take at front ++ 10 ∷ l) (sym behind),
     )
 
 -- a window on what is ahead, without a line feed
-pub more_ahead : (ahead front new : List ℕ) (n : ℕ) → front ≡ take n ahead → None ≡ position (λ c. c == 10) front → new ≡ drop (length front) ahead → HasNoFeed front × (ahead ≡ front ++ new)
+pub more_ahead : (ahead front new : List ℕ) (n : ℕ) → front ≡ take n ahead → None ≡ position (λ c. c == 10) front → new ≡ drop (length front) ahead →
+    HasNoFeed front × (ahead ≡ front ++ new)
 more_ahead ahead front new n window first rest =
     let whole : ahead ≡ front ++ drop n ahead = sym (ap (λ l. l ++ drop n ahead) window ∙ take-append-drop n ahead) in
     let behind : new ≡ drop n ahead = rest ∙ ap (drop (length front)) whole ∙ drop-append_seam front (drop n ahead) in

@@ -41,7 +41,8 @@ members_part (Parent p) = []
 members_part (Members s) = s
 
 -- the same content is the same in two worlds
-pub content_agrees : (w u : Workbook) (t v : ℕ → ℕ → Outcome (List Value)) (i : Item) → content w.state i ≡ content u.state i → AgreeAt (world w t) (world u v) (used.Read i)
+pub content_agrees : (w u : Workbook) (t v : ℕ → ℕ → Outcome (List Value)) (i : Item) → content w.state i ≡ content u.state i →
+    AgreeAt (world w t) (world u v) (used.Read i)
 unfolding column_part parent_part members_part
 content_agrees w u t v (Live o) e = ap (λ c. is_some (column_part c)) e
 content_agrees w u t v (Up o) e = ap parent_part e
@@ -57,10 +58,12 @@ abbrev pub outcome_of : (FormulaCell → Outcome (List Value)) → Option Formul
 outcome_of g None = none
 outcome_of g (Some f) = g f
 
-pub outcome_by_cell : (g : FormulaCell → Outcome (List Value)) (fs : List FormulaCell) (x : Cell) → outcome_in fs (map g fs) x.0 x.1 ≡ outcome_of g (cell_at fs x)
+pub outcome_by_cell : (g : FormulaCell → Outcome (List Value)) (fs : List FormulaCell) (x : Cell) →
+    outcome_in fs (map g fs) x.0 x.1 ≡ outcome_of g (cell_at fs x)
 outcome_by_cell g [] x = refl
 outcome_by_cell g (f ∷ fs) x =
-    elim (f.object == x.0 && f.column == x.1) as (λ b. (if b then g f else outcome_in fs (map g fs) x.0 x.1) ≡ outcome_of g (if b then Some f else cell_at fs x)) [
+    elim (f.object == x.0 && f.column == x.1)
+    as (λ b. (if b then g f else outcome_in fs (map g fs) x.0 x.1) ≡ outcome_of g (if b then Some f else cell_at fs x)) [
       | true ↦ refl
       | false ↦ outcome_by_cell g fs x
     ]
@@ -91,9 +94,11 @@ module _ (w : Workbook) (o c : ℕ) where
 -- what a cell's formula uses in a round, it uses in the end
 uses_below : (w : Workbook) (k : ℕ) (f : FormulaCell) (x : Use) → IsIn x (run_cell (world_at w (table w k)) f).uses → IsIn x (run_cell (settled_world w) f).uses
 uses_below w k f x h =
-    (run_below w (outcome_in (formula_cells w) (table w k)) (outcome_in (formula_cells w) (table w (rounds w))) (λ o c. below_meaning w o c k) (place.Cell f.object f.column) f.core ((Object f.object ∷ []) ∷ [])).uses.each x h
+    (run_below w (outcome_in (formula_cells w) (table w k)) (outcome_in (formula_cells w) (table w (rounds w))) (λ o c. below_meaning w o c k)
+    (place.Cell f.object f.column) f.core ((Object f.object ∷ []) ∷ [])).uses.each x h
 
-module _ (w u : Workbook) (same : u.schema ≡ w.schema) (first : IsRising object_cmp w.state.objects) (second : IsRising object_cmp u.state.objects) (from : List Cell) (agree : (x : Cell) → Reaches w from x → (i : Item) → IsIn i (items_read w x) → content w.state i ≡ content u.state i) where
+module _ (w u : Workbook) (same : u.schema ≡ w.schema) (first : IsRising object_cmp w.state.objects) (second : IsRising object_cmp u.state.objects)
+    (from : List Cell) (agree : (x : Cell) → Reaches w from x → (i : Item) → IsIn i (items_read w x) → content w.state i ≡ content u.state i) where
   same_cell : (x : Cell) → Reaches w from x → cell_at (formula_cells u) x ≡ cell_at (formula_cells w) x
   unfolding column_part
   same_cell x r =
@@ -106,14 +111,16 @@ module _ (w u : Workbook) (same : u.schema ≡ w.schema) (first : IsRising objec
   abbrev SameIn : ℕ → Type 0
   SameIn k = (x : Cell) → Reaches w from x → outcome_after u k x.0 x.1 ≡ outcome_after w k x.0 x.1
 
-  agrees_in : (k : ℕ) → SameIn k → (x : Cell) → Reaches w from x → (y : Use) → IsIn y (uses_at w x) → AgreeAt (world_at w (table w k)) (world_at u (table u k)) y
+  agrees_in : (k : ℕ) → SameIn k → (x : Cell) → Reaches w from x → (y : Use) → IsIn y (uses_at w x) →
+      AgreeAt (world_at w (table w k)) (world_at u (table u k)) y
   agrees_in k so_far x r (used.Read i) h =
       content_agrees w u (outcome_in (formula_cells w) (table w k)) (outcome_in (formula_cells u) (table u k)) i
       (agree x r i (inr (in_filter_map item_in (uses_at w x) (used.Read i) i h refl)))
   agrees_in k so_far x r (used.Cell o c) h =
       sym (so_far (o, c) (Reaches.through x (o, c) r (in_has (cells_read w x) (o, c) (in_filter_map cell_in (uses_at w x) (used.Cell o c) (o, c) h refl))))
 
-  same_run : (k : ℕ) → SameIn k → (x : Cell) → Reaches w from x → (f : FormulaCell) → cell_at (formula_cells w) x ≡ Some f → run_cell (world_at u (table u k)) f ≡ run_cell (world_at w (table w k)) f
+  same_run : (k : ℕ) → SameIn k → (x : Cell) → Reaches w from x → (f : FormulaCell) → cell_at (formula_cells w) x ≡ Some f →
+      run_cell (world_at u (table u k)) f ≡ run_cell (world_at w (table w k)) f
   same_run k so_far x r f e =
       uses_suffice (world_at w (table w k)) (world_at u (table u k)) (place.Cell f.object f.column) ((Object f.object ∷ []) ∷ []) f.core
       (all_agree (world_at w (table w k)) (world_at u (table u k)) (run_cell (world_at w (table w k)) f).uses
@@ -124,7 +131,8 @@ module _ (w u : Workbook) (same : u.schema ≡ w.schema) (first : IsRising objec
   same_outcome (suc k) x r =
       outcome_by_cell (λ f. (run_cell (world_at u (table u k)) f).outcome) (formula_cells u) x
       ∙ ap (outcome_of (λ f. (run_cell (world_at u (table u k)) f).outcome)) (same_cell x r)
-      ∙ elim (cell_at (formula_cells w) x) as (λ o. cell_at (formula_cells w) x ≡ o → outcome_of (λ f. (run_cell (world_at u (table u k)) f).outcome) o ≡ outcome_of (λ f. (run_cell (world_at w (table w k)) f).outcome) o) [
+      ∙ elim (cell_at (formula_cells w) x) as (λ o. cell_at (formula_cells w) x ≡ o →
+      outcome_of (λ f. (run_cell (world_at u (table u k)) f).outcome) o ≡ outcome_of (λ f. (run_cell (world_at w (table w k)) f).outcome) o) [
         | None ↦ λ e. refl
         | Some f ↦ λ e. ap (λ z. z.outcome) (same_run k (same_outcome k) x r f e)
       ] refl

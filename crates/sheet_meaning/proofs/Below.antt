@@ -7,7 +7,8 @@ use Rattle.sheet_columns.specs.declared.fault.Fault.TheVariants.{Cycle, NotOne, 
 use Rattle.sheet_columns.specs.declared.fault.Place.{Place}
 use Rattle.sheet_columns.specs.declared.formula.Connective.{Connective}
 use Rattle.sheet_columns.specs.declared.formula.Core.{Core}
-use Rattle.sheet_meaning.specs.Run.{Outcome, none, is_none, given, done, after, run_after, both_outcomes, finish, and_then, both, decides, second_after_fault, second_truth, connect}
+use Rattle.sheet_meaning.specs.Run.{Outcome, none, is_none, given, done, after, run_after, both_outcomes, finish, and_then, both, decides, second_after_fault}
+use Rattle.sheet_meaning.specs.Run.{second_truth, connect}
 use Rattle.sheet_meaning.specs.Formula.{Variables, run}
 use Rattle.sheet_meaning.specs.Workbook.{world}
 use Rattle.sheet_meaning.proofs.Members.{Within, within_itself, nothing_within, within_append}
@@ -77,19 +78,22 @@ module _ {A B : Type 0} where
       b
 
   boths : (r s : Run A) (q t : Run B) → RunBelow A r s → RunBelow B q t → RunBelow (A × B) (both r q) (both s t)
-  boths r s q t b c = record { is = both_below r.outcome s.outcome q.outcome t.outcome b.is c.is; uses = within_append r.uses s.uses q.uses t.uses b.uses c.uses }
+  boths r s q t b c =
+      record { is = both_below r.outcome s.outcome q.outcome t.outcome b.is c.is; uses = within_append r.uses s.uses q.uses t.uses b.uses c.uses }
 
 after_fault : (e : Fault) (q t : Run Bool) → RunBelow Bool q t → RunBelow Bool (second_after_fault e q) (second_after_fault e t)
 after_fault e q t h =
     let parts = finishes (λ (x : Bool × Bool). Ok x.1) _ _ (boths (given (Err e)) (given (Err e)) q t (same {A = Bool} (given (Err e))) h) in
     let one_side = subst (λ r. RunBelow Bool r (second_part e t)) (as_part e q) parts in
-    chosen (given (Err e)) (given (Err e)) (behind_fault e q) (behind_fault e t) (same _) (subst (λ r. RunBelow Bool (behind_fault e q) r) (as_part e t) one_side) (is_none e)
+    chosen (given (Err e)) (given (Err e)) (behind_fault e q) (behind_fault e t) (same _)
+    (subst (λ r. RunBelow Bool (behind_fault e q) r) (as_part e t) one_side) (is_none e)
 
 same_second : (c : Connective) (q t : Run Bool) → RunBelow Bool q t → (o : Outcome Bool) → RunBelow Bool (second_truth c o q) (second_truth c o t)
 same_second c q t h (Ok a) = chosen (done a) (done a) q t (same (done a)) h (decides c a)
 same_second c q t h (Err e) = after_fault e q t h
 
-second_below : (c : Connective) (q t : Run Bool) → RunBelow Bool q t → (o p : Outcome Bool) → IsBelow o p → RunBelow Bool (second_truth c o q) (second_truth c p t)
+second_below : (c : Connective) (q t : Run Bool) → RunBelow Bool q t → (o p : Outcome Bool) → IsBelow o p →
+    RunBelow Bool (second_truth c o q) (second_truth c p t)
 second_below c q t h o p b =
     ⊎_elim
     (λ e. subst (λ x. RunBelow Bool (second_truth c x q) (second_truth c p t)) (sym e) (nothing (second_truth c p t)))

@@ -65,7 +65,8 @@ from_cells cells (x ∷ xs) y h =
 pub found_in : (fs : List FormulaCell) (x : Cell) (f : FormulaCell) → cell_at fs x ≡ Some f → IsIn f fs × (is_cell (f.object, f.column) x ≡ true)
 found_in [] x f e = cc
 found_in (g ∷ fs) x f e =
-    elim (g.object == x.0 && g.column == x.1) as (λ b. (g.object == x.0 && g.column == x.1) ≡ b → (if b then Some g else cell_at fs x) ≡ Some f → IsIn f (g ∷ fs) × (is_cell (f.object, f.column) x ≡ true)) [
+    elim (g.object == x.0 && g.column == x.1) as (λ b. (g.object == x.0 && g.column == x.1) ≡ b → (if b then Some g else cell_at fs x) ≡ Some f →
+    IsIn f (g ∷ fs) × (is_cell (f.object, f.column) x ≡ true)) [
       | true ↦ λ t k. let same : g ≡ f = cc in (inl (sym same), subst (λ h. is_cell (h.object, h.column) x ≡ true) same t)
       | false ↦ λ t k. let r = found_in fs x f k in (inr r.0, r.1)
     ] refl e

@@ -17,7 +17,8 @@ use Rattle.sheet_columns.specs.declared.view.CoreView.TheVariants as view
 use Rattle.sheet_columns.specs.declared.formula.SetTest.TheVariants.{Equal, Within}
 use Rattle.sheet_columns.specs.declared.formula.OrderTest.TheVariants.{Greater, AtLeast}
 use Rattle.sheet_columns.specs.declared.formula.ArithmeticOperator.TheVariants.{Subtract}
-use Rattle.sheet_columns.specs.declared.formula.Core.{Core, Truth, Number, Root, Variable, ObjectStep, StateStep, FormulaStep, Up, Compare, Order, Arithmetic, Not, Count, Comprehension}
+use Rattle.sheet_columns.specs.declared.formula.Core.{Core, Truth, Number, Root, Variable, ObjectStep, StateStep, FormulaStep, Up, Compare, Order, Arithmetic}
+use Rattle.sheet_columns.specs.declared.formula.Core.{Not, Count, Comprehension}
 use Rattle.sheet_columns.specs.declared.statement.Change.TheVariants as change
 use Rattle.sheet_columns.specs.declared.statement.Target.{Target}
 use Rattle.sheet_columns.specs.declared.statement.CoreStatement.{CoreStatement, Change, New, Delete, Check, For, Reply}
@@ -197,11 +198,19 @@ no_cells = []
 abbrev three : List Cell
 three = (2, 10) ∷ (1, 7) ∷ (1, 6) ∷ []
 
-course_added : left_by (run_procedure club only_operator add_course operator (text (codes "Chess") ∷ number 1 ∷ []) empty []) ≡ Ok (with_course, value.Object 1 ∷ [], no_cells)
+course_added : left_by (run_procedure club only_operator add_course operator (text (codes "Chess") ∷ number 1 ∷ []) empty []) ≡ Ok (
+  with_course,
+  value.Object 1 ∷ [],
+  no_cells,
+)
 unfolding hidden hidden-the_row-Core-0
 course_added = refl
 
-ann_added : left_by (run_procedure club only_operator add_member operator (text (codes "Ann") ∷ []) with_course []) ≡ Ok (with_ann, value.Object 2 ∷ [], no_cells)
+ann_added : left_by (run_procedure club only_operator add_member operator (text (codes "Ann") ∷ []) with_course []) ≡ Ok (
+  with_ann,
+  value.Object 2 ∷ [],
+  no_cells,
+)
 unfolding hidden hidden-the_row-Core-0
 ann_added = refl
 
@@ -215,11 +224,17 @@ unfolding hidden hidden-the_row-Core-0
 denied = refl
 
 -- the results that the checks worked out are dropped again, since a seat was made
-ann_joins : left_by (run_procedure club (Truth true) join (member 2) (value.Object 1 ∷ []) opened []) ≡ Ok (joined_as (codes "Bo"), value.Object 4 ∷ [], no_cells)
+ann_joins : left_by (run_procedure club (Truth true) join (member 2) (value.Object 1 ∷ []) opened []) ≡ Ok (
+  joined_as (codes "Bo"),
+  value.Object 4 ∷ [],
+  no_cells,
+)
 unfolding hidden hidden-the_row-Core-0
 ann_joins = refl
 
-ann_sees : page (workbook club (joined_as (codes "Bo"))) (Truth true) mine (member 2) [] ≡ Ok (part.Show (codes "name") (Ok (text (codes "Ann") ∷ [])) ∷ part.Table (codes "courses") (codes "title" ∷ codes "free" ∷ []) (Ok (record { of = value.Object 1; shows = Ok (text (codes "Chess") ∷ []) ∷ Ok (number 0 ∷ []) ∷ [] } ∷ [])) ∷ [])
+ann_sees : page (workbook club (joined_as (codes "Bo"))) (Truth true) mine (member 2) [] ≡ Ok
+    (part.Show (codes "name") (Ok (text (codes "Ann") ∷ [])) ∷ part.Table (codes "courses") (codes "title" ∷ codes "free" ∷ [])
+    (Ok (record { of = value.Object 1; shows = Ok (text (codes "Chess") ∷ []) ∷ Ok (number 0 ∷ []) ∷ [] } ∷ [])) ∷ [])
 unfolding hidden hidden-the_row-Core-0
 ann_sees = refl
 
@@ -227,16 +242,19 @@ three_are_kept : kept_by_view (workbook club (joined_as (codes "Bo"))) (Truth tr
 unfolding hidden hidden-the_row-Core-0
 three_are_kept = refl
 
-full_course : left_by (run_procedure club (Truth true) join (member 3) (value.Object 1 ∷ []) (joined_as (codes "Bo")) three) ≡ Err (CheckFailed 3 (codes "the course is full"))
+full_course : left_by (run_procedure club (Truth true) join (member 3) (value.Object 1 ∷ []) (joined_as (codes "Bo")) three) ≡ Err
+    (CheckFailed 3 (codes "the course is full"))
 unfolding hidden hidden-the_row-Core-0
 full_course = refl
 
-ann_reads : view_support (workbook club (joined_as (codes "Bo"))) (Truth true) mine (member 2) [] ≡ Live 1 ∷ Live 2 ∷ IsUp 2 ∷ Extent 0 1 ∷ Extent 1 4 ∷ Stored 1 2 ∷ Stored 1 3 ∷ Stored 2 9 ∷ Stored 4 5 ∷ []
+ann_reads : view_support (workbook club (joined_as (codes "Bo"))) (Truth true) mine (member 2) [] ≡ Live 1 ∷ Live 2 ∷ IsUp 2 ∷ Extent 0 1 ∷ Extent 1 4 ∷ Stored
+    1 2 ∷ Stored 1 3 ∷ Stored 2 9 ∷ Stored 4 5 ∷ []
 unfolding hidden hidden-the_row-Core-0
 ann_reads = refl
 
 -- a change that doesn't reach them leaves the kept results
-renamed : left_by (run_procedure club only_operator set_name operator (value.Object 3 ∷ text (codes "Bob") ∷ []) (joined_as (codes "Bo")) three) ≡ Ok (joined_as (codes "Bob"), [], three)
+renamed : left_by (run_procedure club only_operator set_name operator (value.Object 3 ∷ text (codes "Bob") ∷ []) (joined_as (codes "Bo")) three) ≡ Ok
+    (joined_as (codes "Bob"), [], three)
 unfolding hidden hidden-the_row-Core-0
 renamed = refl
 
@@ -246,7 +264,8 @@ unfolding hidden hidden-the_row-Core-0 hidden-the_row-CoreStatement-0
 wiped = refl
 
 -- the seat's cell would be empty
-dropped_too_soon : left_by (run_procedure club only_operator drop_member operator (value.Object 2 ∷ []) (joined_as (codes "Bob")) three) ≡ Err (NotOneCell 4 5 0)
+dropped_too_soon : left_by (run_procedure club only_operator drop_member operator (value.Object 2 ∷ []) (joined_as (codes "Bob")) three) ≡ Err
+    (NotOneCell 4 5 0)
 unfolding hidden hidden-the_row-Core-0
 dropped_too_soon = refl
 

@@ -28,7 +28,8 @@ pub all_map : {A B : Type 0} (P : B → Type 0) (f : A → B) (xs : List A) → 
 all_map P f [] h = tt
 all_map P f (x ∷ xs) h = (h.0, all_map P f xs h.1)
 
-pub from_enumerate : {A : Type 0} (xs : List A) (n k : ℕ) (x : A) → IsIn {A = ℕ × A} (k, x) (enumerate_from n xs) → (j : ℕ) × (k ≡ n + j) × (slice_get xs j ≡ Some x) × IsIn x xs
+pub from_enumerate : {A : Type 0} (xs : List A) (n k : ℕ) (x : A) → IsIn {A = ℕ × A} (k, x) (enumerate_from n xs) →
+    (j : ℕ) × (k ≡ n + j) × (slice_get xs j ≡ Some x) × IsIn x xs
 from_enumerate [] n k x i = absurd i
 from_enumerate {A} (y ∷ ys) n k x i =
     ⊎_elim
@@ -71,14 +72,17 @@ first_fits s kind.Number (Number n) h = tt
 first_fits s kind.Text (Text t) h = tt
 first_fits s k v h = absurd h
 
-first_held : (s : State) (o k : ℕ) (t : Kind) (one : Bool) (first : Option Value) → HasFittingFirst (column.State t one first) → HoldsKind s (record { object = o; column = k; set = first_set first }) (Some (column.State t one first))
+first_held : (s : State) (o k : ℕ) (t : Kind) (one : Bool) (first : Option Value) → HasFittingFirst (column.State t one first) →
+    HoldsKind s (record { object = o; column = k; set = first_set first }) (Some (column.State t one first))
 first_held s o k t one None h = (tt, tt)
 first_held s o k t one (Some v) h = ((tt, tt), (first_fits s t v h, tt))
 
 -- a new cell has its column's type
-pub new_typed : (schema : Schema) → IsTree schema.columns → (s : State) (o c : ℕ) (sc : StateColumn) → IsIn sc (state_columns schema c) → HoldsKind s (record { object = o; column = sc.number; set = first_set sc.first }) (column_of schema.columns sc.number)
+pub new_typed : (schema : Schema) → IsTree schema.columns → (s : State) (o c : ℕ) (sc : StateColumn) → IsIn sc (state_columns schema c) →
+    HoldsKind s (record { object = o; column = sc.number; set = first_set sc.first }) (column_of schema.columns sc.number)
 new_typed schema tree s o c sc i =
     let n = column_there schema c sc i in
-    let is : column_of schema.columns sc.number ≡ Some (column.State sc.kind sc.one sc.first) = ap (option_map (λ (m : Node). m.column)) n.at ∙ ap Some n.column in
+    let is : column_of schema.columns sc.number ≡ Some (column.State sc.kind sc.one sc.first) = ap (option_map (λ (m : Node). m.column)) n.at
+    ∙ ap Some n.column in
     let fits = subst HasFittingFirst n.column (tree.fitting sc.number n.node n.at) in
     subst (HoldsKind s (record { object = o; column = sc.number; set = first_set sc.first })) (sym is) (first_held s o sc.number sc.kind sc.one sc.first fits)

@@ -19,7 +19,8 @@ use Rattle.sheet_columns.specs.declared.formula.ArithmeticOperator.TheVariants.{
 use Rattle.sheet_columns.specs.declared.formula.Connective.TheVariants.{And, Or}
 use Rattle.sheet_columns.specs.declared.formula.Extremum.TheVariants.{Min, Max}
 use Rattle.sheet_columns.specs.declared.formula.Quantifier.TheVariants.{Any, All}
-use Rattle.sheet_columns.specs.declared.formula.Core.{Core, Truth, Number, Text, Root, Variable, ObjectStep, StateStep, FormulaStep, Up, Set, Combine, Compare, Arithmetic, Negate, Join, Connect, If, Count, Only, Extreme, Comprehension, Sum, Quantify}
+use Rattle.sheet_columns.specs.declared.formula.Core.{Core, Truth, Number, Text, Root, Variable, ObjectStep, StateStep, FormulaStep, Up, Set, Combine, Compare}
+use Rattle.sheet_columns.specs.declared.formula.Core.{Arithmetic, Negate, Join, Connect, If, Count, Only, Extreme, Comprehension, Sum, Quantify}
 use Rattle.sheet_meaning.specs.declared.workbook.ColumnFormula.{ColumnFormula}
 use Rattle.sheet_meaning.specs.declared.workbook.LiveObject.{LiveObject}
 use Rattle.sheet_meaning.specs.declared.workbook.StoredCell.{StoredCell}
@@ -388,10 +389,12 @@ unfolding hidden hidden-the_row-Core-0
 many_found = refl
 
 -- two lines of one price: the total counts both, and the set of prices has one
-equal_prices : value_of (outranked_at (object 1 1 0 ∷ object 2 1 0 ∷ []) (stored 1 2 (num 5 ∷ []) ∷ stored 2 2 (num 5 ∷ []) ∷ [])) (Sum (StateStep (Variable 0) 2) (ObjectStep Root 1) (Truth true)) (place.Slot 1) [] ≡ number_is (pos 10)
+equal_prices : value_of (outranked_at (object 1 1 0 ∷ object 2 1 0 ∷ []) (stored 1 2 (num 5 ∷ []) ∷ stored 2 2 (num 5 ∷ []) ∷ []))
+    (Sum (StateStep (Variable 0) 2) (ObjectStep Root 1) (Truth true)) (place.Slot 1) [] ≡ number_is (pos 10)
 unfolding hidden hidden-the_row-Core-0
 equal_prices = refl
 
-one_price : value_of (outranked_at (object 1 1 0 ∷ object 2 1 0 ∷ []) (stored 1 2 (num 5 ∷ []) ∷ stored 2 2 (num 5 ∷ []) ∷ [])) (Count (StateStep (ObjectStep Root 1) 2)) (place.Slot 1) [] ≡ number_is (pos 1)
+one_price : value_of (outranked_at (object 1 1 0 ∷ object 2 1 0 ∷ []) (stored 1 2 (num 5 ∷ []) ∷ stored 2 2 (num 5 ∷ []) ∷ []))
+    (Count (StateStep (ObjectStep Root 1) 2)) (place.Slot 1) [] ≡ number_is (pos 1)
 unfolding hidden hidden-the_row-Core-0
 one_price = refl

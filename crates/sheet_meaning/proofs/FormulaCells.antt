@@ -50,7 +50,8 @@ or_else_none (Some f) = refl
 cell_at-append : (fs gs : List FormulaCell) (x : Cell) → cell_at (fs ++ gs) x ≡ or_else (cell_at fs x) (cell_at gs x)
 cell_at-append [] gs x = refl
 cell_at-append (f ∷ fs) gs x =
-    elim (f.object == x.0 && f.column == x.1) as (λ b. (if b then Some f else cell_at (fs ++ gs) x) ≡ or_else (if b then Some f else cell_at fs x) (cell_at gs x)) [
+    elim (f.object == x.0 && f.column == x.1) as (λ b. (if b then Some f else cell_at (fs ++ gs) x) ≡ or_else (if b then Some f else cell_at fs x)
+    (cell_at gs x)) [
       | true ↦ refl
       | false ↦ cell_at-append fs gs x
     ]
@@ -65,7 +66,9 @@ module _ (s : Schema) (o c : ℕ) (x : Cell) (other : (o == x.0) ≡ false) wher
   none_of : (fs : List ColumnFormula) → cell_at (filter_map (formula_cell s o c) fs) x ≡ None
   none_of [] = refl
   none_of (f ∷ fs) =
-      elim (is_number c (above_of s.columns f.column)) as (λ b. cell_at (cons_option (if b then Some (record { object = o; column = f.column; core = f.core }) else None) (filter_map (formula_cell s o c) fs)) x ≡ None) [
+      elim (is_number c (above_of s.columns f.column))
+      as (λ b. cell_at
+      (cons_option (if b then Some (record { object = o; column = f.column; core = f.core }) else None) (filter_map (formula_cell s o c) fs)) x ≡ None) [
         | true ↦ not_this (record { object = o; column = f.column; core = f.core }) (filter_map (formula_cell s o c) fs) refl ∙ none_of fs
         | false ↦ none_of fs
       ]
@@ -95,11 +98,14 @@ module _ (s : Schema) (x : Cell) where
             | false ↦ λ t. refl
           ] refl
 
-  pub found_by_column : (objects : List LiveObject) → IsRising object_cmp objects → cell_at (cells_in objects) x ≡ cell_by_column s x (column_in (object_at objects x.0))
+  pub found_by_column : (objects : List LiveObject) → IsRising object_cmp objects →
+      cell_at (cells_in objects) x ≡ cell_by_column s x (column_in (object_at objects x.0))
   found_by_column [] r = refl
   found_by_column (y ∷ ys) r =
       cell_at-append (cells_of s y.number y.column) (cells_in ys) x
-      ∙ elim (y.number == x.0) as (λ b. (y.number == x.0) ≡ b → or_else (cell_at (cells_of s y.number y.column) x) (cell_at (cells_in ys) x) ≡ cell_by_column s x (column_in (if b then Some y else object_at ys x.0))) [
+      ∙ elim (y.number == x.0) as (λ b. (y.number == x.0) ≡ b →
+      or_else (cell_at (cells_of s y.number y.column) x) (cell_at (cells_in ys) x) ≡ cell_by_column s x
+      (column_in (if b then Some y else object_at ys x.0))) [
         | true ↦ λ e.
             let same : y.number ≡ x.0 = eqb-true y.number x.0 e in
             ap (or_else (cell_at (cells_of s y.number y.column) x)) (none_behind y ys same r.0)

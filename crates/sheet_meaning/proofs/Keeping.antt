@@ -66,11 +66,14 @@ module _ (w : Workbook) where
       the_only y i = ⊎_elim (λ e. e) (λ n. absurd n) i
   reached_through from x r z (Reaches.through y v s h) = Reaches.through y v (reached_through from x r y s) h
 
-  with_too : (us vs : List Use) (kept other : List Cell) → HoldSame kept other → HoldSame (filter_map cell_in us) (filter_map cell_in vs) → (x : Cell) → IsIn x (kept_with w us kept) → IsIn x (kept_with w vs other)
+  with_too : (us vs : List Use) (kept other : List Cell) → HoldSame kept other → HoldSame (filter_map cell_in us) (filter_map cell_in vs) → (x : Cell) →
+      IsIn x (kept_with w us kept) → IsIn x (kept_with w vs other)
   with_too us vs kept other same cells x h =
       ⊎_elim
       (λ k. kept_in other (reached w vs) x (moved kept other same x k))
-      (λ k. added_in other (reached w vs) x (complete w (filter_map cell_in vs) x (reached_too (filter_map cell_in us) (filter_map cell_in vs) (λ y e. sym (cells y) ∙ e) x (is_reached (filter_map cell_in us) x k))))
+      (λ k. added_in other (reached w vs) x
+      (complete w (filter_map cell_in vs) x
+      (reached_too (filter_map cell_in us) (filter_map cell_in vs) (λ y e. sym (cells y) ∙ e) x (is_reached (filter_map cell_in us) x k))))
       (from_cells kept (reached w us) x h)
 
   closed_with : (kept : List Cell) → IsClosed w kept → (us : List Use) → IsClosed w (kept_with w us kept)
@@ -176,7 +179,8 @@ module _ (w u : Workbook) (kept : List Cell) where
   reads_same : IsWellFormed w → IsWellFormed u → u.schema ≡ w.schema → (x : Cell) → stays x ≡ true → uses_at u x ≡ uses_at w x
   reads_same first second same x e =
       let calm = not_any (support_of_cell w x) (not_true (list_any (is_changed w.state u.state) (support_of_cell w x)) e) in
-      same_uses w u same first.rising second.rising (x ∷ []) (λ y r i h. unchanged w.state u.state i (calm i (supports x y r i h))) x (Reaches.direct x (in_has (x ∷ []) x (inl refl)))
+      same_uses w u same first.rising second.rising (x ∷ []) (λ y r i h. unchanged w.state u.state i (calm i (supports x y r i h))) x
+      (Reaches.direct x (in_has (x ∷ []) x (inl refl)))
 
   closed_after : IsClosed w kept → IsWellFormed w → IsWellFormed u → u.schema ≡ w.schema → IsClosed u (kept_after w u kept)
   closed_after closed first second same x y h r =
@@ -202,4 +206,5 @@ none_left p (x ∷ xs) h = ap (λ b. cond b (x ∷ filter p xs) (filter p xs)) (
 
 pub kept_cells_cost_nothing : KeptCellsCostNothing
 kept_cells_cost_nothing w kept x closed h =
-    ap (sum_by (own_part_of_cell w)) (none_left (λ y. not (has_cell kept y)) (reached_from w (x ∷ [])) (λ y i. ap not (reached_kept w kept closed x h y (is_reached w (x ∷ []) y i))))
+    ap (sum_by (own_part_of_cell w))
+    (none_left (λ y. not (has_cell kept y)) (reached_from w (x ∷ [])) (λ y i. ap not (reached_kept w kept closed x h y (is_reached w (x ∷ []) y i))))

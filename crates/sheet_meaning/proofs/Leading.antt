@@ -5,7 +5,8 @@ use Rattle.std.specs.List.{filter_map}
 use Rattle.sheet_values.specs.declared.value.Value.{Value}
 use Rattle.sheet_columns.specs.declared.fault.Place.TheVariants as place
 use Rattle.sheet_columns.specs.declared.item.Item.{Item}
-use Rattle.sheet_columns.specs.declared.statement.CoreStatement.{CoreStatement, Let, Change, New, Delete, Check, If', For', Reply, Row_of-CoreStatement, end_of-CoreStatement as end, more_of-CoreStatement as more}
+use Rattle.sheet_columns.specs.declared.statement.CoreStatement.{CoreStatement, Let, Change, New, Delete, Check, If', For', Reply, Row_of-CoreStatement}
+use Rattle.sheet_columns.specs.declared.statement.CoreStatement.{end_of-CoreStatement as end, more_of-CoreStatement as more}
 use Rattle.sheet_meaning.specs.declared.run.Use.{Use}
 use Rattle.sheet_meaning.specs.declared.run.Run.{Run}
 use Rattle.sheet_meaning.specs.declared.refusal.Refusal.{Refusal}
@@ -19,7 +20,10 @@ use Rattle.sheet_meaning.specs.Items.{content}
 use Rattle.sheet_meaning.specs.Formula.{object_in, truth}
 use Rattle.sheet_meaning.specs.Procedure.{beginning, course_of_allow, refuse_unfilled, test_filled}
 use Rattle.sheet_meaning.specs.Run.{both}
-use Rattle.sheet_meaning.specs.Statements.{Point, Changed, Course, keeping, at_end, where_known, next, with_value, ended, within, value_weight, max_reply, with_state, with_variable, store, make, remove, removal, removals, remove_all, answer, is_present, still, changed, course_next, course_from, course_ended, course_turn, course_turns, course, course_block, course_statements, formula, target_object, workbook}
+use Rattle.sheet_meaning.specs.Statements.{Point, Changed, Course, keeping, at_end, where_known, next, with_value, ended, within, value_weight, max_reply}
+use Rattle.sheet_meaning.specs.Statements.{with_state, with_variable, store, make, remove, removal, removals, remove_all, answer, is_present, still, changed}
+use Rattle.sheet_meaning.specs.Statements.{course_next, course_from, course_ended, course_turn, course_turns, course, course_block, course_statements, formula}
+use Rattle.sheet_meaning.specs.Statements.{target_object, workbook}
 use Rattle.sheet_meaning.specs.WellFormed.{unfilled}
 use Rattle.sheet_meaning.specs.Workbook.{object_at}
 use Rattle.sheet_meaning.specs.declared.workbook.Schema.{Schema}
@@ -56,7 +60,10 @@ quiet_if p false x = refused p x
 quiet_within : (p : Point) (limits : List (Which × ℕ × ℕ)) (q : Point) → p.state ≡ q.state → Passes p (still p (within limits (Ok q)))
 quiet_within p [] q h = quiet p q h
 quiet_within p (x ∷ xs) q h =
-    elim (nat_lt x.2 x.1) as (λ b. Passes p (still p (if b then Err (Full x.0 x.2) else within xs (Ok q)))) [ true ↦ refused p (Full x.0 x.2) | false ↦ quiet_within p xs q h ]
+    elim (nat_lt x.2 x.1) as (λ b. Passes p (still p (if b then Err (Full x.0 x.2) else within xs (Ok q)))) [
+      | true ↦ refused p (Full x.0 x.2)
+      | false ↦ quiet_within p xs q h
+    ]
 
 changed_goes : (p : Point) (r : Result Point Refusal) → Passes p (changed p r)
 changed_goes p (Ok q) = record { leads = (refl, refl); ends = λ x e. let same : q ≡ x = cc in same }
@@ -66,13 +73,15 @@ next_goes : (p : Point) (c : Course) (f : Point → Course) → Passes p c → (
 next_goes p c f g h =
     elim c.end as (λ r. c.end ≡ r → Goes p (next r (λ q. (f q).end)) (at_end r c.last (λ q. (f q).last)) (c.changes ++ at_end r [] (λ q. (f q).changes))) [
       | Ok q ↦ λ e. record {
-        leads = lead_on p.state c.last.state (f q).last.state c.changes (f q).changes g.leads (subst (λ (x : Point). Lead x.state (f q).changes (f q).last.state) (sym (g.ends q e)) (h q).leads);
+        leads = lead_on p.state c.last.state (f q).last.state c.changes (f q).changes g.leads
+            (subst (λ (x : Point). Lead x.state (f q).changes (f q).last.state) (sym (g.ends q e)) (h q).leads);
         ends = (h q).ends;
       }
       | Err x ↦ λ e. record { leads = subst (λ l. Lead p.state l c.last.state) (sym (no_more c.changes)) g.leads; ends = λ q k. cc }
     ] refl
 
-from_goes : {A : Type 0} (s : Schema) (uss : List (List Use)) (r : Run A) (p : Point) (f : A → Point → Course) → ((a : A) (q : Point) → q.state ≡ p.state → Passes q (f a q)) → Passes p (course_from s uss r p f)
+from_goes : {A : Type 0} (s : Schema) (uss : List (List Use)) (r : Run A) (p : Point) (f : A → Point → Course) →
+    ((a : A) (q : Point) → q.state ≡ p.state → Passes q (f a q)) → Passes p (course_from s uss r p f)
 from_goes s uss r p f h =
     let q = keeping s r.uses p in
     elim r.outcome as (λ o. Goes p (with_value o (λ a. (f a q).end)) (where_known o q (λ a. (f a q).last)) (where_known o [] (λ a. (f a q).changes))) [
@@ -98,7 +107,8 @@ turn_goes : (body : Point → Course) → ((q : Point) → Passes q (body q)) �
 turn_goes body h x p =
     let inner = h (with_variable p (x ∷ [])) in
     let whole : Passes p (body (with_variable p (x ∷ []))) = record { leads = inner.leads; ends = inner.ends } in
-    chosen_goes p (is_present p.state x) (course_ended p (body (with_variable p (x ∷ [])))) (still p (Ok p)) (ended_goes p p (body (with_variable p (x ∷ []))) whole) (quiet p p refl)
+    chosen_goes p (is_present p.state x) (course_ended p (body (with_variable p (x ∷ [])))) (still p (Ok p))
+    (ended_goes p p (body (with_variable p (x ∷ []))) whole) (quiet p p refl)
 
 turns_goes : (body : Point → Course) → ((q : Point) → Passes q (body q)) → (xs : List Value) (p : Point) → Passes p (course_turns body xs p)
 turns_goes body h [] p = quiet p p refl
@@ -106,7 +116,8 @@ turns_goes body h (x ∷ xs) p = next_goes p (course_turn body x p) (course_turn
 
 removal_leads : (s : Schema) (p : Point) (o : ℕ) → Lead p.state (removal p o) (remove s p o).state
 removal_leads s p o =
-    elim (is_some (object_at p.state.objects o)) as (λ b. Lead p.state (if b then record { before = p.state; behind = without_object p.state o } ∷ [] else []) (if b then with_state s p (without_object p.state o) else p).state) [
+    elim (is_some (object_at p.state.objects o)) as (λ b. Lead p.state (if b then record { before = p.state; behind = without_object p.state o } ∷ [] else [])
+    (if b then with_state s p (without_object p.state o) else p).state) [
       | true ↦ (refl, refl)
       | false ↦ refl
     ]
@@ -114,26 +125,41 @@ removal_leads s p o =
 removals_lead : (s : Schema) (p : Point) (os : List ℕ) → Lead p.state (removals s p os) (fold (remove s) p os).state
 removals_lead s p [] = refl
 removals_lead s p (o ∷ os) =
-    lead_on p.state (remove s p o).state (fold (remove s) (remove s p o) os).state (removal p o) (removals s (remove s p o) os) (removal_leads s p o) (removals_lead s (remove s p o) os)
+    lead_on p.state (remove s p o).state (fold (remove s) (remove s p o) os).state (removal p o) (removals s (remove s p o) os) (removal_leads s p o)
+    (removals_lead s (remove s p o) os)
 
 mutual
   goes : (x : CoreStatement) (s : Schema) (p : Point) → Passes p (course x s p)
-  goes (Let n e) s p = from_goes s ((formula s p n e).uses ∷ []) (formula s p n e) p (λ set q. still q (Ok (with_variable q set))) (λ set q h. quiet q (with_variable q set) refl)
+  goes (Let n e) s p =
+      from_goes s ((formula s p n e).uses ∷ []) (formula s p n e) p (λ set q. still q (Ok (with_variable q set)))
+      (λ set q h. quiet q (with_variable q set) refl)
   goes (Change n how t e) s p =
-      from_goes s ((target_object s p n t).uses ∷ (formula s p n e).uses ∷ []) (both (target_object s p n t) (formula s p n e)) p (λ x q. changed q (store s how x.0 t.column x.1 q)) (λ x q h. changed_goes q (store s how x.0 t.column x.1 q))
-  goes (New n t) s p = from_goes s ((target_object s p n t).uses ∷ []) (target_object s p n t) p (λ o q. changed q (make s t.column o q)) (λ o q h. changed_goes q (make s t.column o q))
+      from_goes s ((target_object s p n t).uses ∷ (formula s p n e).uses ∷ []) (both (target_object s p n t) (formula s p n e)) p
+      (λ x q. changed q (store s how x.0 t.column x.1 q)) (λ x q h. changed_goes q (store s how x.0 t.column x.1 q))
+  goes (New n t) s p =
+      from_goes s ((target_object s p n t).uses ∷ []) (target_object s p n t) p (λ o q. changed q (make s t.column o q))
+      (λ o q h. changed_goes q (make s t.column o q))
   goes (Delete n e) s p =
       from_goes s ((formula s p n e).uses ∷ []) (formula s p n e) p (λ set q. remove_all s q (filter_map object_in set))
-      (λ set q h. record { leads = removals_lead s q (filter_map object_in set); ends = λ x k. let same : fold (remove s) q (filter_map object_in set) ≡ x = cc in same })
+      (λ set q h. record {
+        leads = removals_lead s q (filter_map object_in set);
+        ends = λ x k. let same : fold (remove s) q (filter_map object_in set) ≡ x =
+            cc in same;
+      })
   goes (Check n e message) s p =
-      from_goes s ((formula s p n e).uses ∷ []) (truth (place.Statement n) (formula s p n e)) p (λ holds q. still q (if holds then Ok q else Err (CheckFailed n message))) (λ holds q h. quiet_if q holds (CheckFailed n message))
+      from_goes s ((formula s p n e).uses ∷ []) (truth (place.Statement n) (formula s p n e)) p
+      (λ holds q. still q (if holds then Ok q else Err (CheckFailed n message))) (λ holds q h. quiet_if q holds (CheckFailed n message))
   goes (If' n e _ body _ otherwise) s p =
-      from_goes s ((formula s p n e).uses ∷ []) (truth (place.Statement n) (formula s p n e)) p (λ holds q. course_ended q (if holds then course_block body s q else course_block otherwise s q))
-      (λ holds q h. ended_goes q q (if holds then course_block body s q else course_block otherwise s q) (chosen_goes q holds (course_block body s q) (course_block otherwise s q) (block_goes body s q) (block_goes otherwise s q)))
+      from_goes s ((formula s p n e).uses ∷ []) (truth (place.Statement n) (formula s p n e)) p
+      (λ holds q. course_ended q (if holds then course_block body s q else course_block otherwise s q))
+      (λ holds q h. ended_goes q q (if holds then course_block body s q else course_block otherwise s q)
+      (chosen_goes q holds (course_block body s q) (course_block otherwise s q) (block_goes body s q) (block_goes otherwise s q)))
   goes (For' n e _ body) s p =
-      from_goes s ((formula s p n e).uses ∷ []) (formula s p n e) p (λ set q. course_turns (course_block body s) set q) (λ set q h. turns_goes (course_block body s) (block_goes body s) set q)
+      from_goes s ((formula s p n e).uses ∷ []) (formula s p n e) p (λ set q. course_turns (course_block body s) set q)
+      (λ set q h. turns_goes (course_block body s) (block_goes body s) set q)
   goes (Reply n e) s p =
-      from_goes s ((formula s p n e).uses ∷ []) (formula s p n e) p (λ set q. still q (answer set q)) (λ set q h. quiet_within q ((which.Reply, sum_by value_weight set, max_reply) ∷ []) (record q { reply = set }) refl)
+      from_goes s ((formula s p n e).uses ∷ []) (formula s p n e) p (λ set q. still q (answer set q))
+      (λ set q h. quiet_within q ((which.Reply, sum_by value_weight set, max_reply) ∷ []) (record q { reply = set }) refl)
 
   block_goes : {m : _} (row : Row_of-CoreStatement m) (s : Schema) (p : Point) → Passes p (course_block row s p)
   block_goes end s p = quiet p p refl
@@ -155,7 +181,8 @@ statements_are_courses xs s p = is_course p (course_statements xs s p) (statemen
 
 allow_goes : (s : Schema) (allow : Core) (p : Point) → Passes p (course_of_allow s allow p)
 allow_goes s allow p =
-    from_goes s ((formula s p 0 allow).uses ∷ []) (truth (place.Statement 0) (formula s p 0 allow)) p (λ holds q. still q (if holds then Ok q else Err Denied)) (λ holds q h. quiet_if q holds Denied)
+    from_goes s ((formula s p 0 allow).uses ∷ []) (truth (place.Statement 0) (formula s p 0 allow)) p (λ holds q. still q (if holds then Ok q else Err Denied))
+    (λ holds q h. quiet_if q holds Denied)
 
 filled_goes : (s : Schema) (p : Point) → Passes p (still p (test_filled s p))
 filled_goes s p =

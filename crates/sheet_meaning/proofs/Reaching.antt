@@ -16,7 +16,8 @@ count p (f ∷ fs) = count p fs + (if p f then 1 else 0)
 
 count_le : (p : FormulaCell → Bool) (fs : List FormulaCell) → count p fs ≤ length fs
 count_le p [] = omega arith
-count_le p (f ∷ fs) = elim (p f) as (λ b. count p fs + (if b then 1 else 0) ≤ suc (length fs)) [ true ↦ omega (arith, count_le p fs) | false ↦ omega (arith, count_le p fs) ]
+count_le p (f ∷ fs) =
+    elim (p f) as (λ b. count p fs + (if b then 1 else 0) ≤ suc (length fs)) [ true ↦ omega (arith, count_le p fs) | false ↦ omega (arith, count_le p fs) ]
 
 -- those that pass the second test pass the first
 record Back (p q : FormulaCell → Bool) (fs : List FormulaCell) : Type 0 where
@@ -54,7 +55,10 @@ module _ (p q : FormulaCell → Bool) (grows : (f : FormulaCell) → Grows (p f)
   back_or_more (f ∷ fs) =
       ⊎_elim
       (λ back. ⊎_elim
-      (λ here. inl (record { each = λ g h e. ⊎_elim (λ same. subst (λ x. p x ≡ true) (sym same) (here (subst (λ x. q x ≡ true) same e))) (λ k. back.each g k e) h }))
+      (λ here. inl (record {
+        each = λ g h e. ⊎_elim (λ same. subst (λ x. p x ≡ true) (sym same) (here (subst (λ x. q x ≡ true) same e))) (λ k. back.each g k e)
+            h;
+      }))
       (λ lt. inr lt)
       (same_so_far (count p fs) (count q fs) (p f) (q f) (grows f) (count_le_count fs)))
       (λ lt. inr (one_more (count p fs) (count q fs) (p f) (q f) (grows f) lt))
@@ -96,7 +100,8 @@ module _ (w : Workbook) where
             | Some f ↦ λ e u.
                 let found = found_in (formula_cells w) x f e in
                 let same : (f.object, f.column) ≡ x = same_cell (f.object, f.column) x found.1 in
-                let there : has_cell (cells (suc k)) (f.object, f.column) ≡ true = subst (λ z. has_cell (cells (suc k)) z ≡ true) (sym same) (in_has (cells (suc k)) x h) in
+                let there : has_cell (cells (suc k)) (f.object, f.column) ≡ true =
+                subst (λ z. has_cell (cells (suc k)) z ≡ true) (sym same) (in_has (cells (suc k)) x h) in
                 let before : IsIn x (cells k) = subst (λ z. IsIn z (cells k)) same (has_in (cells k) (f.object, f.column) (back.each f found.0 there)) in
                 next k x y before r
           ] refl r;
@@ -105,7 +110,8 @@ module _ (w : Workbook) where
     closed_or_more : (k : ℕ) → Closed (cells (suc k)) ⊎ (count (is_reached k) (formula_cells w) < count (is_reached (suc k)) (formula_cells w))
     closed_or_more k =
         ⊎_elim (λ back. inl (closed_by k back)) (λ lt. inr lt)
-        (back_or_more (is_reached k) (is_reached (suc k)) (λ f e. in_has (cells (suc k)) (f.object, f.column) (rises k (f.object, f.column) (has_in (cells k) (f.object, f.column) e))) (formula_cells w))
+        (back_or_more (is_reached k) (is_reached (suc k))
+        (λ f e. in_has (cells (suc k)) (f.object, f.column) (rises k (f.object, f.column) (has_in (cells k) (f.object, f.column) e))) (formula_cells w))
 
     closed_or_many : (k : ℕ) → Closed (cells k) ⊎ (k ≤ count (is_reached k) (formula_cells w))
     closed_or_many zero = inr (omega arith)

@@ -9,11 +9,14 @@ use Rattle.sheet_columns.specs.declared.fault.Place.{Place}
 use Rattle.sheet_columns.specs.declared.formula.Connective.{Connective}
 use Rattle.sheet_columns.specs.declared.formula.Quantifier.{Quantifier}
 use Rattle.sheet_columns.specs.declared.formula.Quantifier.TheVariants.{Any, All}
-use Rattle.sheet_columns.specs.declared.formula.Core.{Core, Truth, Number, Text, Root, Variable, ObjectStep', StateStep', FormulaStep', Up', Set', Combine', Compare', Order', Arithmetic', Negate', Join', Not', Connect', If', Count', Only', Extreme', Comprehension', Sum', Quantify', Row_of-Core, end_of-Core as end, more_of-Core as more}
+use Rattle.sheet_columns.specs.declared.formula.Core.{Core, Truth, Number, Text, Root, Variable, ObjectStep', StateStep', FormulaStep', Up', Set', Combine'}
+use Rattle.sheet_columns.specs.declared.formula.Core.{Compare', Order', Arithmetic', Negate', Join', Not', Connect', If', Count', Only', Extreme'}
+use Rattle.sheet_columns.specs.declared.formula.Core.{Comprehension', Sum', Quantify', Row_of-Core, end_of-Core as end, more_of-Core as more}
 use Rattle.sheet_columns.specs.declared.fault.Fault.{Fault}
 use Rattle.sheet_columns.specs.declared.fault.Fault.TheVariants as fault
 use Rattle.sheet_meaning.specs.Run.{Outcome, given, done, after, finish, and_then, both_outcomes, both, all, left_fault, connect}
-use Rattle.sheet_meaning.specs.Formula.{World, Variables, run, run_each, step, bind, turn, quantified, gathered, single, on_object, extent_of, stored_of, worked_of, parent_of, variable_read}
+use Rattle.sheet_meaning.specs.Formula.{World, Variables, run, run_each, step, bind, turn, quantified, gathered, single, on_object, extent_of, stored_of}
+use Rattle.sheet_meaning.specs.Formula.{worked_of, parent_of, variable_read}
 use Rattle.sheet_meaning.specs.declared.run.Run.{Run}
 
 -- the steps of an evaluation keep the relation
@@ -69,7 +72,8 @@ module _ (R : (A : Type 0) → Run A → Run A → Type 0) (kept : IsKept R) whe
   map_related f g h [] = tt
   map_related f g h (x ∷ xs) = (h x, map_related f g h xs)
 
-  gathers : {A B : Type 0} (g : B → A → B) (b : B) (f h : Value → Run (List A)) → ((x : Value) → R _ (f x) (h x)) → (s : List Value) → R _ (gathered g b f s) (gathered g b h s)
+  gathers : {A B : Type 0} (g : B → A → B) (b : B) (f h : Value → Run (List A)) → ((x : Value) → R _ (f x) (h x)) → (s : List Value) →
+      R _ (gathered g b f s) (gathered g b h s)
   gathers g b f h rel s = kept.finishes _ _ _ (all_related (map f s) (map h s) (map_related f h rel s))
 
   singles : {A : Type 0} (r s : Run A) → R _ r s → R _ (single r) (single s)
@@ -97,7 +101,8 @@ module _ (R : (A : Type 0) → Run A → Run A → Type 0) (kept : IsKept R) whe
 
   module _ (w u : World) (reads : HoldsAtReads R w u) (p : Place) where
     -- the steps from the objects of an expression
-    stepped : (e : Core) (v : Variables) (f g : ℕ → Run (List Value)) → ((o : ℕ) → R _ (f o) (g o)) → R _ (run e w p v) (run e u p v) → R _ (and_then (run e w p v) (step f)) (and_then (run e u p v) (step g))
+    stepped : (e : Core) (v : Variables) (f g : ℕ → Run (List Value)) → ((o : ℕ) → R _ (f o) (g o)) → R _ (run e w p v) (run e u p v) →
+        R _ (and_then (run e w p v) (step f)) (and_then (run e u p v) (step g))
     stepped e v f g h k = kept.follows (step f) (step g) (run e w p v) (run e u p v) k (steps f g h)
 
     mutual

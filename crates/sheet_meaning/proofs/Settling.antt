@@ -94,7 +94,8 @@ module _ (w : Workbook) where
   next_below : (t u : Table) → TableBelow t u → TableBelow (next_table w t) (next_table w u)
   next_below t u h =
       map_below (λ f. (run_cell (world_at w t) f).outcome) (λ f. (run_cell (world_at w u) f).outcome)
-      (λ f. (run_below w (outcome_in (formula_cells w) t) (outcome_in (formula_cells w) u) (outcome_below (formula_cells w) t u h) (place.Cell f.object f.column) f.core ((Object f.object ∷ []) ∷ [])).is)
+      (λ f. (run_below w (outcome_in (formula_cells w) t) (outcome_in (formula_cells w) u) (outcome_below (formula_cells w) t u h)
+      (place.Cell f.object f.column) f.core ((Object f.object ∷ []) ∷ [])).is)
       (formula_cells w)
 
   pub grows : (k : ℕ) → TableBelow (table w k) (table w (suc k))

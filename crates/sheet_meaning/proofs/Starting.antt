@@ -1,5 +1,6 @@
 -- The workbook at the start is well formed, and filled.
-use Rattle.std.proofs.Common.{◌≡◌, refl, sym, ap, ◌∙◌, subst, ℕ, ◌+◌, ◌≤◌, suc, Bool, true, false, List, [], ◌∷◌, length, arith, Option, Some, None, inl, inr, ⊎_elim, length-append}
+use Rattle.std.proofs.Common.{◌≡◌, refl, sym, ap, ◌∙◌, subst, ℕ, ◌+◌, ◌≤◌, suc, Bool, true, false, List, [], ◌∷◌, length, arith, Option, Some, None, inl, inr}
+use Rattle.std.proofs.Common.{⊎_elim, length-append}
 use Rattle.std.specs.Prelude.{map, filter, find, not, ◌==◌, ◌&&◌, cond, is_some, slice_get, if◌then◌else◌}
 use Rattle.std.specs.List.{filter_map, cons_option, enumerate_from, AllByRecursion}
 use Rattle.std.proofs.lemmas.List.{append-nil, length-map}
@@ -15,7 +16,8 @@ use Rattle.sheet_meaning.specs.Changes.{first_set}
 use Rattle.sheet_meaning.specs.Statements.{workbook}
 use Rattle.sheet_meaning.specs.Start.{start_state, StartsAreWellFormed, StartsAreFilled}
 use Rattle.sheet_meaning.specs.Workbook.{set_in, formula_cell, cells_of}
-use Rattle.sheet_meaning.specs.WellFormed.{StateColumn, as_state, state_columns, as_formula, all_formula_columns, HasFormulas, one_cells, stored_values, cell_count, HoldsKind, IsWellFormed}
+use Rattle.sheet_meaning.specs.WellFormed.{StateColumn, as_state, state_columns, as_formula, all_formula_columns, HasFormulas, one_cells, stored_values}
+use Rattle.sheet_meaning.specs.WellFormed.{cell_count, HoldsKind, IsWellFormed}
 use Rattle.sheet_meaning.specs.declared.workbook.ColumnFormula.{ColumnFormula}
 use Rattle.sheet_meaning.specs.declared.workbook.StoredCell.{StoredCell}
 use Rattle.sheet_meaning.specs.declared.workbook.Schema.{Schema}
@@ -39,7 +41,8 @@ enumerate_long n (x ∷ xs) = ap suc (enumerate_long (n + 1) xs)
 abbrev new_cells : List StateColumn → List StoredCell
 new_cells ks = map (λ (k : StateColumn). record { object = 0; column = k.number; set = first_set k.first }) ks
 
-new_keys : (ks : List StateColumn) → map {B = ℕ × ℕ} (λ (x : StoredCell). (x.object, x.column)) (new_cells ks) ≡ map {B = ℕ × ℕ} (λ (k : StateColumn). (0, k.number)) ks
+new_keys : (ks : List StateColumn) →
+    map {B = ℕ × ℕ} (λ (x : StoredCell). (x.object, x.column)) (new_cells ks) ≡ map {B = ℕ × ℕ} (λ (k : StateColumn). (0, k.number)) ks
 new_keys [] = refl
 new_keys (k ∷ ks) = ap (λ l. (0, k.number) ∷ l) (new_keys ks)
 
@@ -90,8 +93,10 @@ module _ (s : Schema) (tree : IsTree s.columns) (formulas : HasFormulas s) where
     drawn = (omega arith, tt);
     cells = new_keys ks ∙ sym (append-nil (map (λ (k : StateColumn). (0, k.number)) ks));
     typed =
-        all_map (λ (x : StoredCell). HoldsKind t x (column_of s.columns x.column)) (λ (k : StateColumn). record { object = 0; column = k.number; set = first_set k.first }) ks
-        (all_from (λ (k : StateColumn). HoldsKind t (record { object = 0; column = k.number; set = first_set k.first }) (column_of s.columns k.number)) ks (λ k i. new_typed s tree t 0 0 k i));
+        all_map (λ (x : StoredCell). HoldsKind t x (column_of s.columns x.column))
+        (λ (k : StateColumn). record { object = 0; column = k.number; set = first_set k.first }) ks
+        (all_from (λ (k : StateColumn). HoldsKind t (record { object = 0; column = k.number; set = first_set k.first }) (column_of s.columns k.number)) ks
+        (λ k i. new_typed s tree t 0 0 k i));
     few_objects = omega arith;
     few_cells = omega (arith, few);
     few_values = omega (arith, few_first ks, few_columns);
@@ -145,7 +150,8 @@ record IsFoundAs (ks : List StateColumn) (c : ℕ) (set : List Value) : Type 0 w
 set_found : (ks : List StateColumn) (k : StateColumn) → IsIn k ks → IsFoundAs ks k.number (set_in (new_cells ks) 0 k.number)
 set_found [] k i = absurd i
 set_found (x ∷ xs) k i =
-    elim (x.number == k.number) as (λ b. (x.number == k.number) ≡ b → IsFoundAs (x ∷ xs) k.number (if b then first_set x.first else set_in (new_cells xs) 0 k.number)) [
+    elim (x.number == k.number) as (λ b. (x.number == k.number) ≡ b →
+    IsFoundAs (x ∷ xs) k.number (if b then first_set x.first else set_in (new_cells xs) 0 k.number)) [
       | true ↦ λ e. record { column = x; among = inl refl; number = eqb-true x.number k.number e; first = refl }
       | false ↦ λ e.
           ⊎_elim
@@ -182,7 +188,8 @@ module _ (s : Schema) (h : HasFirstValues s.columns) where
 
   filled : find (λ (x : ℕ × ℕ). not (length (set_in (start_state s).cells x.0 x.1) == 1)) (one_cells (workbook s (start_state s))) ≡ None
   filled = find_none (λ (x : ℕ × ℕ). not (length (set_in (start_state s).cells x.0 x.1) == 1)) (one_cells (workbook s (start_state s))) (λ x i.
-      let there = subst (IsIn x) (append-nil (map {B = ℕ × ℕ} (λ (k : StateColumn). (0, k.number)) (filter (λ (k : StateColumn). k.one) (state_columns s 0)))) i in
+      let there = subst (IsIn x) (append-nil (map {B = ℕ × ℕ} (λ (k : StateColumn). (0, k.number)) (filter (λ (k : StateColumn). k.one) (state_columns s 0))))
+      i in
       let k = from_map (λ (k : StateColumn). (0, k.number)) (filter (λ (k : StateColumn). k.one) (state_columns s 0)) x there in
       let among = from_filter (λ (k : StateColumn). k.one) (state_columns s 0) k.0 k.1 in
       ap (λ (y : ℕ × ℕ). not (length (set_in (start_state s).cells y.0 y.1) == 1)) k.2 ∙ cell_filled k.0 among.0 among.1)

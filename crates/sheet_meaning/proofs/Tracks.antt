@@ -46,7 +46,8 @@ module _ (w u : World) where
     follows f g r s first t = record {
       is = λ h.
           ap (λ x. and_then x g) (first.is (front_agrees r.uses (run_after r.outcome f).uses h))
-          ∙ ap (λ (x : Run B). record { outcome = x.outcome; uses = r.uses ++ x.uses }) ((next_tracks f g t r.outcome).is (back_agrees r.uses (run_after r.outcome f).uses h));
+          ∙ ap (λ (x : Run B). record { outcome = x.outcome; uses = r.uses ++ x.uses })
+          ((next_tracks f g t r.outcome).is (back_agrees r.uses (run_after r.outcome f).uses h));
     }
 
     boths : (r s : Run A) (q t : Run B) → Tracks A r s → Tracks B q t → Tracks (A × B) (both r q) (both s t)
@@ -58,7 +59,8 @@ module _ (w u : World) where
   after_fault e q t h =
       let parts = finishes (λ (x : Bool × Bool). Ok x.1) _ _ (boths (given (Err e)) (given (Err e)) q t (same {A = Bool} (given (Err e))) h) in
       let one_side = subst (λ r. Tracks Bool r (second_part e t)) (as_part e q) parts in
-      chosen (given (Err e)) (given (Err e)) (behind_fault e q) (behind_fault e t) (same _) (subst (λ r. Tracks Bool (behind_fault e q) r) (as_part e t) one_side) (is_none e)
+      chosen (given (Err e)) (given (Err e)) (behind_fault e q) (behind_fault e t) (same _)
+      (subst (λ r. Tracks Bool (behind_fault e q) r) (as_part e t) one_side) (is_none e)
 
   second_tracks : (c : Connective) (q t : Run Bool) → Tracks Bool q t → (o : Outcome Bool) → Tracks Bool (second_truth c o q) (second_truth c o t)
   second_tracks c q t h (Ok a) = chosen (done a) (done a) q t (same (done a)) h (decides c a)
@@ -68,7 +70,8 @@ module _ (w u : World) where
   connects c r s q t first second = record {
     is = λ h.
         ap (λ x. connect c x t) (first.is (front_agrees r.uses (second_truth c r.outcome q).uses h))
-        ∙ ap (λ (x : Run Bool). record { outcome = x.outcome; uses = r.uses ++ x.uses }) ((second_tracks c q t second r.outcome).is (back_agrees r.uses (second_truth c r.outcome q).uses h));
+        ∙ ap (λ (x : Run Bool). record { outcome = x.outcome; uses = r.uses ++ x.uses })
+        ((second_tracks c q t second r.outcome).is (back_agrees r.uses (second_truth c r.outcome q).uses h));
   }
 
   kept : IsKept Tracks

@@ -83,10 +83,13 @@ module _ (s : Schema) (t : State) where
   one_again : (y : LiveObject) (x : ℕ × ℕ) → IsIn x (ones s y) → IsThereAt t.objects y.number y.column → IsIn x (one_cells (workbook s t))
   one_again y x i there =
       let k = from_map (λ (c : StateColumn). (y.number, c.number)) (filter (λ (c : StateColumn). c.one) (state_columns s y.column)) x i in
-      let here : IsIn (y.number, k.0.number) (map (λ (c : StateColumn). (y.number, c.number)) (filter (λ (c : StateColumn). c.one) (state_columns s there.object.column))) =
+      let here : IsIn (y.number, k.0.number)
+      (map (λ (c : StateColumn). (y.number, c.number)) (filter (λ (c : StateColumn). c.one) (state_columns s there.object.column))) =
       in_map (λ (c : StateColumn). (y.number, c.number)) (filter (λ (c : StateColumn). c.one) (state_columns s there.object.column)) k.0
       (subst (λ c. IsIn k.0 (filter (λ (c : StateColumn). c.one) (state_columns s c))) (sym there.column) k.1) in
-      let own : IsIn (y.number, k.0.number) (ones s there.object) = subst (λ n. IsIn (y.number, k.0.number) (map (λ (c : StateColumn). (n, c.number)) (filter (λ (c : StateColumn). c.one) (state_columns s there.object.column)))) (sym there.number) here in
+      let own : IsIn (y.number, k.0.number) (ones s there.object) =
+      subst (λ n. IsIn (y.number, k.0.number)
+      (map (λ (c : StateColumn). (n, c.number)) (filter (λ (c : StateColumn). c.one) (state_columns s there.object.column)))) (sym there.number) here in
       in_flat_map (ones s) t.objects there.object x there.among (subst (λ z. IsIn z (ones s there.object)) (sym k.2) own)
 
 pub untouched_cells_stay_filled : UntouchedCellsStayFilled
@@ -99,7 +102,10 @@ untouched_cells_stay_filled s p c is first second filled o k one live stored =
     let m = from_map (λ (q : StateColumn). (y.number, q.number)) (filter (λ (q : StateColumn). q.one) (state_columns s y.column)) x f.2 in
     let number : o ≡ y.number = ap (λ (z : ℕ × ℕ). z.0) m.2 in
     let found : column_in (object_at t.objects y.number) ≡ Some y.column = ap column_in (found_rising t.objects second.rising y f.1) in
-    let was : column_in (object_at p.state.objects o) ≡ Some y.column = sym (ap column_part (is.stays (Live o) live)) ∙ ap (λ n. column_in (object_at t.objects n)) number ∙ found in
+    let was : column_in (object_at p.state.objects o) ≡ Some y.column = sym (ap column_part (is.stays (Live o) live))
+    ∙ ap (λ n. column_in (object_at t.objects n)) number ∙ found in
     let there = there_at p.state.objects y.number y.column (subst (λ n. column_in (object_at p.state.objects n) ≡ Some y.column) number was) in
-    let before = one_long (length (set_in p.state.cells o k)) (found_none (λ (z : ℕ × ℕ). not (length (set_in p.state.cells z.0 z.1) == 1)) (one_cells (workbook s p.state)) x filled (one_again s p.state y x f.2 there)) in
+    let before = one_long (length (set_in p.state.cells o k))
+    (found_none (λ (z : ℕ × ℕ). not (length (set_in p.state.cells z.0 z.1) == 1)) (one_cells (workbook s p.state)) x filled
+    (one_again s p.state y x f.2 there)) in
     ap length (ap members_part (is.stays (Stored o k) stored)) ∙ before

@@ -10,9 +10,11 @@ one_more P before now past was is = record {
   later = omega (arith, ap length past, length-append before.past (before.now ∷ []));
   each = λ k from. elim (cases_eq k (length before.past)) [
     | inl here ↦ subst P (sym (ap (λ (l : List Files). get_or l k now.now) past ∙ get_or_push before.past before.now now.now k (sym here))) was
-    | inr not_here ↦ subst P (sym (get_or_past now.past k now.now (omega (arith, from, not_here, ap length past, length-append before.past (before.now ∷ []))))) is
+    | inr not_here ↦ subst P (sym (get_or_past now.past k now.now (omega (arith, from, not_here, ap length past, length-append before.past (before.now ∷ [])))))
+        is
   ];
-  earlier = λ k below. ap (λ (l : List Files). get_or l k now.now) past ∙ get_or_append_left before.past (before.now ∷ []) now.now k below ∙ get_or_default before.past k now.now before.now below;
+  earlier = λ k below. ap (λ (l : List Files). get_or l k now.now) past ∙ get_or_append_left before.past (before.now ∷ []) now.now k below
+      ∙ get_or_default before.past k now.now before.now below;
 }
 
 -- from the first call to the last

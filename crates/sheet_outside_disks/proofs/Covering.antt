@@ -1,5 +1,6 @@
 -- Images that are filled range by range.
-use Rattle.std.proofs.Common.{◌≡◌, ◌⊎◌, inl, inr, ℕ, ◌+◌, ◌-◌, ◌<◌, ◌≤◌, max, List, [], ◌∷◌, ◌++◌, length, get_or, take, drop, map, replicate, refl, sym, ◌∙◌, ap, subst, arith, length-append, length-drop}
+use Rattle.std.proofs.Common.{◌≡◌, ◌⊎◌, inl, inr, ℕ, ◌+◌, ◌-◌, ◌<◌, ◌≤◌, max, List, [], ◌∷◌, ◌++◌, length, get_or, take, drop, map, replicate, refl, sym, ◌∙◌}
+use Rattle.std.proofs.Common.{ap, subst, arith, length-append, length-drop}
 use Rattle.std.proofs.lemmas.Bool.{cases_lt}
 use Rattle.std.proofs.lemmas.List.{length-take, length-replicate, get_or_append_left, get_or-append_right, get_or-take, get_or-drop, get_or-replicate}
 use Rattle.sheet_outside.specs.Crash.{File, Range, Within, greatest_end, settled_bytes}
@@ -45,7 +46,8 @@ decide a b i = elim (cases_lt i a) [
   | inr from ↦ elim (cases_lt i b) [ inl below ↦ inl (from, below) | inr past ↦ inr (λ w. omega (arith, past, w.1)) ]
 ]
 
-pub filled_more : (settled : List ℕ) (rs : List Range) (r : Range) (fill : ℕ) (before now : List ℕ) → IsFilled settled rs fill before → IsCovered before r.place r.count fill now → IsFilled settled (rs ++ r ∷ []) fill now
+pub filled_more : (settled : List ℕ) (rs : List Range) (r : Range) (fill : ℕ) (before now : List ℕ) → IsFilled settled rs fill before →
+    IsCovered before r.place r.count fill now → IsFilled settled (rs ++ r ∷ []) fill now
 filled_more settled rs r fill before now f c = record {
   longest = omega (arith, c.long, f.longest, end_push rs r);
   filled = λ i below any. elim (decide r.place (r.place + r.count) i) [
@@ -65,7 +67,8 @@ filled_more settled rs r fill before now f c = record {
     earlier i not_here (inr w) = elim (within_push rs r i w) [ inl there ↦ inr there | inr here ↦ absurd (not_here here) ]
 
 -- one range more of those that are stored
-pub filled_step : (settled : List ℕ) (ranges : List TheRange) (i : ℕ) (d : TheRange) (fill : ℕ) (before now : List ℕ) → i < length ranges → IsFilled settled (map range (take i ranges)) fill before
+pub filled_step : (settled : List ℕ) (ranges : List TheRange) (i : ℕ) (d : TheRange) (fill : ℕ) (before now : List ℕ) → i < length ranges →
+    IsFilled settled (map range (take i ranges)) fill before
     → IsCovered before (get_or ranges i d).place (get_or ranges i d).count fill now → IsFilled settled (map range (take (i + 1) ranges)) fill now
 filled_step settled ranges i d fill before now below f c =
     subst (λ (rs : List Range). IsFilled settled rs fill now) (sym (map_more range ranges i (get_or ranges i d) d below refl))
@@ -91,7 +94,11 @@ module _ (before : List ℕ) (place count fill : ℕ) where
   behind = drop (place + count) padded
 
   length-padded : length padded ≡ length before + (place + count - length before)
-  length-padded = omega (arith, length-append before (replicate (place + count - length before) fill), length-replicate {A = ℕ} (place + count - length before) fill)
+  length-padded = omega (
+    arith,
+    length-append before (replicate (place + count - length before) fill),
+    length-replicate {A = ℕ} (place + count - length before) fill,
+  )
 
   length-front : length (take place padded) ≡ place
   length-front = omega (arith, length-take place padded, length-padded)
@@ -111,7 +118,8 @@ module _ (before : List ℕ) (place count fill : ℕ) where
       ∙ get_or-replicate (place + count - length before) (i - length before) fill 0 (omega (arith, past, below))
 
   in_front : (i : ℕ) → i < place → get_or all i 0 ≡ get_or padded i 0
-  in_front i below = get_or_append_left (take place padded) (replicate count fill ++ behind) 0 i (omega (arith, below, length-front)) ∙ get_or-take place padded i 0 below
+  in_front i below = get_or_append_left (take place padded) (replicate count fill ++ behind) 0 i (omega (arith, below, length-front))
+      ∙ get_or-take place padded i 0 below
 
   in_range : (i : ℕ) → place ≤ i → i < place + count → get_or all i 0 ≡ fill
   in_range i from below =

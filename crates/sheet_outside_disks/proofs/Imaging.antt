@@ -18,14 +18,18 @@ pub if_ok_as : {T E : Type 0} (P Q : T → Type 0) → ((x : T) → P x → Q x)
 if_ok_as P Q so (Ok x) p = so x p
 if_ok_as P Q so (Err e) p = p
 
-pub image_at : (d : Drive) (call fill : ℕ) (name : List ℕ) (file : File) (bytes : List ℕ) → d.tells ≡ true → call ≤ length d.calls → IsLastOpen (state d.start (take call d.calls)) (Some name)
+pub image_at : (d : Drive) (call fill : ℕ) (name : List ℕ) (file : File) (bytes : List ℕ) → d.tells ≡ true → call ≤ length d.calls →
+    IsLastOpen (state d.start (take call d.calls)) (Some name)
     → Some file ≡ (state d.start (take call d.calls)).disk.now name → IsImageOf file fill bytes → IsImageAt d call fill (open_at d call) bytes
 image_at d call fill name file bytes tells within last there image =
     let s = state d.start (take call d.calls) in
-    let is_open : open_at d call ≡ Some name = cond_all d.tells (nat_le call (length d.calls)) s.is_open (Some s.disk.name) None tells (le_true call (length d.calls) within) last.0 ∙ ap (λ n. Some n) last.1 in
+    let is_open : open_at d call ≡ Some name =
+    cond_all d.tells (nat_le call (length d.calls)) s.is_open (Some s.disk.name) None tells (le_true call (length d.calls) within) last.0
+    ∙ ap (λ n. Some n) last.1 in
     subst (λ o. IsImageAt d call fill o bytes) (sym is_open) (file, ap (λ (f : Files). f name) (files_then d.start d.calls call within) ∙ sym there, image)
 
 -- an open file is there
-pub open_not_there : (d : Drive) (call : ℕ) (name : List ℕ) → IsLastOpen (state d.start (take call d.calls)) (Some name) → None ≡ (state d.start (take call d.calls)).disk.now name → ⊥
+pub open_not_there : (d : Drive) (call : ℕ) (name : List ℕ) → IsLastOpen (state d.start (take call d.calls)) (Some name) →
+    None ≡ (state d.start (take call d.calls)).disk.now name → ⊥
 open_not_there d call name last none =
     open_there d.start (take call d.calls) last.0 (ap (λ n. (state d.start (take call d.calls)).disk.now n) last.1 ∙ sym none)

@@ -23,14 +23,17 @@ numbers fs = map (λ (f : ColumnFormula). f.column) fs
 pub formulas_there : (nodes : List Node) → HasFormulas (schema_of nodes)
 formulas_there nodes = all (enumerate_from 0 nodes)
   where
-    one : (k : ℕ) (c : Column) (fs : List ColumnFormula) (ns : List ℕ) → numbers fs ≡ ns → numbers (cons_option (formula_in k c) fs) ≡ cons_option (as_formula k c) ns
+    one : (k : ℕ) (c : Column) (fs : List ColumnFormula) (ns : List ℕ) → numbers fs ≡ ns →
+        numbers (cons_option (formula_in k c) fs) ≡ cons_option (as_formula k c) ns
     one k column.Object fs ns e = e
     one k (column.State kind o first) fs ns e = e
     one k (column.Formula kind) fs ns e = ap (λ l. k ∷ l) e
 
-    all : (xs : List (ℕ × Node)) → numbers (filter_map (λ (x : ℕ × Node). formula_in x.0 x.1.column) xs) ≡ filter_map (λ (x : ℕ × Node). as_formula x.0 x.1.column) xs
+    all : (xs : List (ℕ × Node)) →
+        numbers (filter_map (λ (x : ℕ × Node). formula_in x.0 x.1.column) xs) ≡ filter_map (λ (x : ℕ × Node). as_formula x.0 x.1.column) xs
     all [] = refl
-    all (x ∷ xs) = one x.0 x.1.column (filter_map (λ (y : ℕ × Node). formula_in y.0 y.1.column) xs) (filter_map (λ (y : ℕ × Node). as_formula y.0 y.1.column) xs) (all xs)
+    all (x ∷ xs) = one x.0 x.1.column (filter_map (λ (y : ℕ × Node). formula_in y.0 y.1.column) xs)
+        (filter_map (λ (y : ℕ × Node). as_formula y.0 y.1.column) xs) (all xs)
 
 -- formula cells are as many where the formulas' columns are the same
 module _ (s t : Schema) (same : s.columns ≡ t.columns) (o c : ℕ) where

@@ -151,10 +151,14 @@ module _ (nodes : List Node) (tree : IsTree nodes) (s : State) (w : IsWellFormed
             ∙ sym (flat_map-append (λ (x : LiveObject). map (λ (k : StateColumn). (x.number, k.number)) (state_columns (schema_of nodes) x.column)) s.objects
             (new ∷ []));
         typed =
-            all_both (λ (x : StoredCell). HoldsKind after x (column_of nodes x.column)) s.cells (map (λ (k : StateColumn). record { object = s.next; column = k.number; set = first_set k.first }) scs)
-            (all_mono (λ (x : StoredCell). HoldsKind s x (column_of nodes x.column)) (λ (x : StoredCell). HoldsKind after x (column_of nodes x.column)) (λ x h. holds_kept s after keeps x (column_of nodes x.column) h) s.cells w.typed)
-            (all_map (λ (x : StoredCell). HoldsKind after x (column_of nodes x.column)) (λ (k : StateColumn). record { object = s.next; column = k.number; set = first_set k.first }) scs
-            (all_from (λ (k : StateColumn). HoldsKind after (record { object = s.next; column = k.number; set = first_set k.first }) (column_of nodes k.number)) scs (λ k i. new_typed (schema_of nodes) tree after s.next c k i)));
+            all_both (λ (x : StoredCell). HoldsKind after x (column_of nodes x.column)) s.cells
+            (map (λ (k : StateColumn). record { object = s.next; column = k.number; set = first_set k.first }) scs)
+            (all_mono (λ (x : StoredCell). HoldsKind s x (column_of nodes x.column)) (λ (x : StoredCell). HoldsKind after x (column_of nodes x.column))
+            (λ x h. holds_kept s after keeps x (column_of nodes x.column) h) s.cells w.typed)
+            (all_map (λ (x : StoredCell). HoldsKind after x (column_of nodes x.column))
+            (λ (k : StateColumn). record { object = s.next; column = k.number; set = first_set k.first }) scs
+            (all_from (λ (k : StateColumn). HoldsKind after (record { object = s.next; column = k.number; set = first_set k.first }) (column_of nodes k.number))
+            scs (λ k i. new_typed (schema_of nodes) tree after s.next c k i)));
         few_objects = few.0;
         few_cells = few.1;
         few_values = few.2;

@@ -174,7 +174,8 @@ record AreTyped (o : Outline) (s : Bodies) : Type 0 where
   procedures : AllByRecursion (IsWellTypedProcedure o.columns o.callers) s.procedures
   views : AllByRecursion (IsWellTypedView o.columns o.callers) s.views
 
-parameters_at : (n : List Node) (lists : List (List (List ℕ × Kind))) (k : ℕ) → AllByRecursion (AreParametersIn n) lists → AreParametersIn n (slice_index_or lists k [])
+parameters_at : (n : List Node) (lists : List (List (List ℕ × Kind))) (k : ℕ) → AllByRecursion (AreParametersIn n) lists →
+    AreParametersIn n (slice_index_or lists k [])
 parameters_at n [] k all = (omega arith, tt)
 parameters_at n (ps ∷ lists) zero all = all.0
 parameters_at n (ps ∷ lists) (suc k) all = parameters_at n lists k all.1
@@ -209,7 +210,8 @@ module _ (typed_procedures : ProceduresAreTyped) (typed_views : ViewsAreTyped) (
         views = all_more (IsWellTypedView o.columns o.callers) s.views b.0 all.views here;
       })
 
-  all_typed : (ds : List Declaration) (s t : Bodies) → AllByRecursion (AreParametersIn o.columns) o.procedures → AllByRecursion (AreParametersIn o.columns) o.views
+  all_typed : (ds : List Declaration) (s t : Bodies) → AllByRecursion (AreParametersIn o.columns) o.procedures →
+      AllByRecursion (AreParametersIn o.columns) o.views
       → AreTyped o s → in_turn (judge o own) s ds ≡ Ok t → AreTyped o t
   all_typed [] s t procedures views all is = subst (AreTyped o) (same_ok s t is) all
   all_typed (d ∷ ds) s t procedures views all is =

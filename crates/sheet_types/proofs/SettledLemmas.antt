@@ -1,5 +1,6 @@
 -- Columns with the types of the last round, which are those of object columns as far as they are of objects.
-use Rattle.std.proofs.Common.{◌≡◌, ℕ, ◌+◌, zero, suc, Bool, true, false, List, [], ◌∷◌, length, map, Option, Some, None, Ok, Err, cond, refl, sym, ap, ◌∙◌, subst, arith}
+use Rattle.std.proofs.Common.{◌≡◌, ℕ, ◌+◌, zero, suc, Bool, true, false, List, [], ◌∷◌, length, map, Option, Some, None, Ok, Err, cond, refl, sym, ap, ◌∙◌}
+use Rattle.std.proofs.Common.{subst, arith}
 use Rattle.std.specs.Prelude.{◌&&◌, slice_get, slice_index_or, codes, option_map, option_and_then}
 use Rattle.std.specs.List.{AllByRecursion}
 use Rattle.sheet_values.specs.declared.value.Kind.{Kind}
@@ -59,7 +60,8 @@ settled_each : (kinds : List Kind) (nodes : List Node) (ps : List (List ℕ × K
 settled_each kinds nodes [] all = tt
 settled_each kinds nodes (p ∷ ps) all = (settled_kind kinds nodes p.1 all.0, settled_each kinds nodes ps all.1)
 
-pub settled_parameters : (kinds : List Kind) (nodes : List Node) (ps : List (List ℕ × Kind)) → AreParametersIn nodes ps → AreParametersIn (with_kinds kinds 0 nodes) ps
+pub settled_parameters : (kinds : List Kind) (nodes : List Node) (ps : List (List ℕ × Kind)) → AreParametersIn nodes ps →
+    AreParametersIn (with_kinds kinds 0 nodes) ps
 settled_parameters kinds nodes ps all = (all.0, settled_each kinds nodes ps all.1)
 
 lacks_settled : (k : Kind) (x : Column) → lacks_first (of_kind k x) ≡ lacks_first x

@@ -1,5 +1,6 @@
 -- A column of one value directly under the root has a first value.
-use Rattle.std.proofs.Common.{◌≡◌, ℕ, ◌+◌, ◌<◌, zero, suc, Bool, true, false, cond, List, [], ◌∷◌, ◌++◌, length, take, Option, Some, None, Ok, Err, refl, sym, ap, ◌∙◌, subst, append_assoc, length-append, add-one, arith, eq-eqb}
+use Rattle.std.proofs.Common.{◌≡◌, ℕ, ◌+◌, ◌<◌, zero, suc, Bool, true, false, cond, List, [], ◌∷◌, ◌++◌, length, take, Option, Some, None, Ok, Err, refl, sym}
+use Rattle.std.proofs.Common.{ap, ◌∙◌, subst, append_assoc, length-append, add-one, arith, eq-eqb}
 use Rattle.std.specs.Prelude.{◌==◌, ◌&&◌, is_some, slice_index_or}
 use Rattle.std.specs.List.{AllByRecursion}
 use Rattle.std.proofs.lemmas.Bool.{eqb-true}
@@ -23,7 +24,8 @@ use Rattle.sheet_types_outline.specs.declared.naming.Named.{Named}
 use Rattle.sheet_types_outline.specs.declared.resolving.Resolved.{Resolved}
 use Rattle.sheet_types_outline.specs.Columns.{AreObjects}
 use Rattle.sheet_types_outline.specs.Names.{one_more}
-use Rattle.sheet_types_outline.specs.Naming.{untyped, open_behind, name_callers, name_under, parameter_names, part_names, name_procedure, name_view, name_declaration, nothing_named, all_named}
+use Rattle.sheet_types_outline.specs.Naming.{untyped, open_behind, name_callers, name_under, parameter_names, part_names, name_procedure, name_view}
+use Rattle.sheet_types_outline.specs.Naming.{name_declaration, nothing_named, all_named}
 use Rattle.sheet_types_outline.specs.Orderly.{IsOrderlyAt, IsOrderlyFrom, count_behind}
 use Rattle.sheet_types_outline.specs.Outlines.{filled}
 use Rattle.sheet_types_outline.specs.Resolving.{parameters_of, resolve, nothing_resolved, all_resolved}
@@ -122,7 +124,8 @@ same s t ks none opened rooted columns open_same = record {
   rooted = subst (λ (ns : List Node). 0 < length ns) columns rooted;
 }
 
-places_column : (s t : Named) (c : Column) → IsOpen s.opened → 0 < length s.columns → c.depth < length s.opened → name_under s (slice_index_or s.opened c.depth 0) c ≡ Ok t → Places s t (c.depth ∷ [])
+places_column : (s t : Named) (c : Column) → IsOpen s.opened → 0 < length s.columns → c.depth < length s.opened →
+    name_under s (slice_index_or s.opened c.depth 0) c ≡ Ok t → Places s t (c.depth ∷ [])
 unfolding name_under
 places_column s t c opened rooted inside is =
     let above = slice_index_or s.opened c.depth 0 in
@@ -150,13 +153,15 @@ places_procedure s t p opened rooted is =
 places_view : (s t : Named) (v : View) → IsOpen s.opened → 0 < length s.columns → name_view s v ≡ Ok t → Places s t []
 unfolding name_view
 places_view s t v opened rooted is =
-    let a = both_ok (one_more s.views v.line v.name) (λ names. parameter_names v.parameters >>= λ parameters. part_names v.parts >>= λ parts. Ok (record s { views = names })) t is in
+    let a = both_ok (one_more s.views v.line v.name) (λ names. parameter_names v.parameters >>= λ parameters. part_names v.parts >>= λ parts.
+    Ok (record s { views = names })) t is in
     let b = both_ok (parameter_names v.parameters) (λ parameters. part_names v.parts >>= λ parts. Ok (record s { views = a.0 })) t a.2 in
     let f = both_ok (part_names v.parts) (λ parts. Ok (record s { views = a.0 })) t b.2 in
     let e : record s { views = a.0 } ≡ t = passed false (Doubled 0) _ t f.2 in
     same s t [] refl opened rooted (ap (λ (n : Named). n.columns) e) (ap (λ (n : Named). n.opened) e)
 
-places_at : (s t : Named) (d : Declaration) (count : ℕ) → length s.opened ≡ count → IsOrderlyAt count d → IsOpen s.opened → 0 < length s.columns → name_declaration s d ≡ Ok t → Places s t (depths_at d)
+places_at : (s t : Named) (d : Declaration) (count : ℕ) → length s.opened ≡ count → IsOrderlyAt count d → IsOpen s.opened → 0 < length s.columns →
+    name_declaration s d ≡ Ok t → Places s t (depths_at d)
 unfolding depths_at
 places_at s t (declaration.Callers line p) count counted orderly opened rooted is =
     let e : record s { has_callers = true } ≡ t = passed s.has_callers _ _ t is in
@@ -167,7 +172,8 @@ places_at s t (declaration.Procedure p) count counted orderly opened rooted is =
 places_at s t (declaration.View v) count counted orderly opened rooted is = places_view s t v opened rooted is
 
 -- all columns that the first pass places
-places_all : (s t : Named) (ds : List Declaration) (count : ℕ) → length s.opened ≡ count → AreObjects s.columns s.opened → IsOrderlyFrom count ds → IsOpen s.opened → 0 < length s.columns
+places_all : (s t : Named) (ds : List Declaration) (count : ℕ) → length s.opened ≡ count → AreObjects s.columns s.opened → IsOrderlyFrom count ds →
+    IsOpen s.opened → 0 < length s.columns
     → in_turn name_declaration s ds ≡ Ok t → Places s t (depths_in ds)
 places_all s t [] count counted all orderly opened rooted is =
     let e = same_ok s t is in same s t [] refl opened rooted (ap (λ (n : Named). n.columns) e) (ap (λ (n : Named). n.opened) e)
@@ -198,7 +204,8 @@ never : (b : Bool) → (b && false) ≡ false
 never true = refl
 never false = refl
 
-state_stated : (nodes : List Node) (number k : ℕ) (one : Bool) (first : Option Literal) (t : Kind) (x : columns.Column) → state_column nodes number k one first t ≡ Ok x → IsStated x k
+state_stated : (nodes : List Node) (number k : ℕ) (one : Bool) (first : Option Literal) (t : Kind) (x : columns.Column) →
+    state_column nodes number k one first t ≡ Ok x → IsStated x k
 state_stated nodes number k one None t x is =
     let tested : (one && k == 0) ≡ false = not_refused (one && k == 0) is in
     subst (λ y. IsStated y k) (passed (one && k == 0) (NeedsFirst (path nodes number)) (column.State t one None) x is) (lacking one (k == 0) tested)
@@ -245,7 +252,12 @@ states_at nodes r t (declaration.Callers line p) is =
 states_at nodes r t (declaration.Column c) is =
     let a = both_ok (column_content nodes (length r.contents) c.depth c.content) (λ x. Ok (record r { contents = r.contents ++ x ∷ [] })) t is in
     let e : record r { contents = r.contents ++ a.0 ∷ [] } ≡ t = same_ok _ t a.2 in
-    record { more = a.0 ∷ []; grown = ap (λ (s : Resolved). s.contents) (sym e); stated = (content_stated nodes (length r.contents) c.depth c.content a.0 a.1, tt) }
+    record {
+      more = a.0 ∷ [];
+      grown = ap (λ (s : Resolved). s.contents) (sym e);
+      stated =
+          (content_stated nodes (length r.contents) c.depth c.content a.0 a.1, tt);
+    }
 states_at nodes r t (declaration.Procedure p) is =
     let a = both_ok (parameters_of nodes p.parameters) (λ ps. Ok (record r { procedures = r.procedures ++ ps ∷ [] })) t is in
     let e : record r { procedures = r.procedures ++ a.0 ∷ [] } ≡ t = same_ok _ t a.2 in
@@ -288,7 +300,8 @@ firsts (n ∷ nodes) (x ∷ xs) [] h g = absurd h
 firsts (n ∷ nodes) (x ∷ xs) (k ∷ ks) h g = (has_own n x k h.0 g.0, firsts nodes xs ks h.1 g.1)
 
 -- the columns of an outline have the first values that they must have
-pub outline_firsts : (ds : List Declaration) (s : Named) (r : Resolved) → IsOrderlyFrom 1 ds → all_named ds ≡ Ok s → all_resolved s.columns ds ≡ Ok r → HasFirstValues (filled s.columns r.contents)
+pub outline_firsts : (ds : List Declaration) (s : Named) (r : Resolved) → IsOrderlyFrom 1 ds → all_named ds ≡ Ok s → all_resolved s.columns ds ≡ Ok r →
+    HasFirstValues (filled s.columns r.contents)
 outline_firsts ds s r orderly named resolved =
     let p = places_all nothing_named s ds 1 refl (refl, tt) orderly tt (omega arith) named in
     let q = states_all s.columns nothing_resolved r ds resolved in

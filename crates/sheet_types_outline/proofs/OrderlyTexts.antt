@@ -8,7 +8,10 @@ use Rattle.sheet_define_data.specs.declared.definition.Parameter.{Parameter}
 use Rattle.sheet_define_data.specs.declared.definition.Procedure.{Procedure}
 use Rattle.sheet_define_data.specs.declared.definition.View.{View}
 use Rattle.sheet_types_rules.specs.Parameters.{most_parameters}
-use Rattle.sheet_define_data.specs.Grammar.{Limits, Maybe, left_out, stated, IsName, IsLiteral, a_number, a_negative_number, a_text, a_true, a_false, IsFirst, a_first, IsColumn, an_object_column, a_state_column, a_formula_column, AreColumns, no_columns, more_columns, InParentheses, no_parameters, some_parameters, IsProcedure, a_procedure, IsView, a_view, IsDeclaration, the_callers, a_column, one_procedure, one_view, AreDeclarations, no_declarations, more_declarations}
+use Rattle.sheet_define_data.specs.Grammar.{Limits, Maybe, left_out, stated, IsName, IsLiteral, a_number, a_negative_number, a_text, a_true, a_false, IsFirst}
+use Rattle.sheet_define_data.specs.Grammar.{a_first, IsColumn, an_object_column, a_state_column, a_formula_column, AreColumns, no_columns, more_columns}
+use Rattle.sheet_define_data.specs.Grammar.{InParentheses, no_parameters, some_parameters, IsProcedure, a_procedure, IsView, a_view, IsDeclaration, the_callers}
+use Rattle.sheet_define_data.specs.Grammar.{a_column, one_procedure, one_view, AreDeclarations, no_declarations, more_declarations}
 use Rattle.sheet_types_outline.specs.Orderly.{IsUnsigned, IsUnsignedIfAny, IsOrderlyFrom}
 use Rattle.sheet_types_outline.specs.Texts.{TextsAreOrderly}
 use Rattle.sheet_types_outline.proofs.PlainTokens.{IsPlain, ArePlain, lexed_plain, formula_plain, path_plain, type_plain, one_word_plain, first_plain}
@@ -99,7 +102,11 @@ declaration_orderly l b _ _ _ (the_callers w ts rest q a1 r) p =
     record { plain = path_plain ts rest q r p.1; before = λ es behind. record { orderly = λ count lt. (tt, behind.orderly count lt) } }
 declaration_orderly l b _ _ _ (a_column ts rest ds q) p = column_orderly l 0 ts rest ds q p
 declaration_orderly l b _ _ _ (one_procedure ts rest x q) p =
-    record { plain = procedure_plain l b ts rest x q p; before = λ es behind. record { orderly = λ count lt. (procedure_few l b ts rest x q, behind.orderly count lt) } }
+    record {
+      plain = procedure_plain l b ts rest x q p;
+      before =
+          λ es behind. record { orderly = λ count lt. (procedure_few l b ts rest x q, behind.orderly count lt) };
+    }
 declaration_orderly l b _ _ _ (one_view ts rest v q) p =
     record { plain = view_plain l ts rest v q p; before = λ es behind. record { orderly = λ count lt. (view_few l ts rest v q, behind.orderly count lt) } }
 

@@ -1,5 +1,6 @@
 -- The columns and types of an outline are its own.
-use Rattle.std.proofs.Common.{◌≡◌, ℕ, ◌+◌, ◌≤◌, zero, suc, Bool, true, false, ◌&&◌, cond, List, [], ◌∷◌, ◌++◌, length, map, Option, Some, None, Ok, Err, refl, sym, ap, ◌∙◌, subst, append_assoc, length-append, arith}
+use Rattle.std.proofs.Common.{◌≡◌, ℕ, ◌+◌, ◌≤◌, zero, suc, Bool, true, false, ◌&&◌, cond, List, [], ◌∷◌, ◌++◌, length, map, Option, Some, None, Ok, Err, refl}
+use Rattle.std.proofs.Common.{sym, ap, ◌∙◌, subst, append_assoc, length-append, arith}
 use Rattle.std.specs.Prelude.{◌==◌, option_map, unwrap_or}
 use Rattle.std.specs.List.{AllByRecursion}
 use Rattle.std.proofs.lemmas.List.{map-append}
@@ -26,7 +27,8 @@ use Rattle.sheet_types_outline.specs.Columns.{objects_at, objects_in, is_object_
 use Rattle.sheet_types_outline.specs.Steps.{in_turn}
 use Rattle.sheet_types_outline.specs.Naming.{untyped, name_declaration, nothing_named, all_named}
 use Rattle.sheet_types_outline.specs.Orderly.{IsOrderlyAt, IsOrderlyFrom, count_behind}
-use Rattle.sheet_types_outline.specs.Types.{follow, is_object_column, if_object_column, object_column_at, kind_of, declared_kind, first_value, state_column, column_content}
+use Rattle.sheet_types_outline.specs.Types.{follow, is_object_column, if_object_column, object_column_at, kind_of, declared_kind, first_value, state_column}
+use Rattle.sheet_types_outline.specs.Types.{column_content}
 use Rattle.sheet_types_outline.specs.Resolving.{resolve_parameter, parameters_of, resolve, nothing_resolved, all_resolved}
 use Rattle.sheet_types_outline.specs.Outlines.{filled, outline_of}
 use Rattle.sheet_types_outline.specs.Within.{form, forms_at, forms_in, IsWithin, OutlinesAreWithin}
@@ -174,7 +176,8 @@ parameters_in nodes typed found (p ∷ ps) all is =
     a.2
 
 -- there are as many parameters as declared
-parameters_count : (nodes : List Node) (typed found : List (List ℕ × Kind)) (ps : List Parameter) → in_turn (resolve_parameter nodes) typed ps ≡ Ok found → length found ≡ length typed + length ps
+parameters_count : (nodes : List Node) (typed found : List (List ℕ × Kind)) (ps : List Parameter) → in_turn (resolve_parameter nodes) typed ps ≡ Ok found →
+    length found ≡ length typed + length ps
 parameters_count nodes typed found [] is = let e = ap length (sym (same_ok typed found is)) in omega (arith, e)
 parameters_count nodes typed found (p ∷ ps) is =
     let a = both_ok (resolve_parameter nodes typed p) (λ u. in_turn (resolve_parameter nodes) u ps) found is in
@@ -184,7 +187,8 @@ parameters_count nodes typed found (p ∷ ps) is =
     let rest = parameters_count nodes a.0 found ps a.2 in
     omega (arith, more, one, rest)
 
-parameters_of_declared : (nodes : List Node) (found : List (List ℕ × Kind)) (ps : List Parameter) → length ps ≤ most_parameters → parameters_of nodes ps ≡ Ok found → AreParametersIn nodes found
+parameters_of_declared : (nodes : List Node) (found : List (List ℕ × Kind)) (ps : List Parameter) → length ps ≤ most_parameters →
+    parameters_of nodes ps ≡ Ok found → AreParametersIn nodes found
 parameters_of_declared nodes found ps few is =
     let count = parameters_count nodes [] found ps is in
     (omega (arith, few, count), parameters_in nodes [] found ps tt is)
@@ -239,10 +243,15 @@ record IsGrown (nodes : List Node) (r t : Resolved) (ds : List Declaration) : Ty
   sorts : map holds_objects t.contents ≡ map holds_objects r.contents ++ objects_in ds
   within : IsResolvedIn nodes t
 
-resolved_in : (nodes : List Node) (r t : Resolved) (ds : List Declaration) → AllByRecursion HasFew ds → AreFitting r.contents → IsResolvedIn nodes r → in_turn (resolve nodes) r ds ≡ Ok t → IsGrown nodes r t ds
+resolved_in : (nodes : List Node) (r t : Resolved) (ds : List Declaration) → AllByRecursion HasFew ds → AreFitting r.contents → IsResolvedIn nodes r →
+    in_turn (resolve nodes) r ds ≡ Ok t → IsGrown nodes r t ds
 resolved_in nodes r t [] few fitting all is =
     let e = same_ok r t is in
-    record { sorts = ap (λ (s : Resolved). map holds_objects s.contents) (sym e) ∙ sym (append_nil (map holds_objects r.contents)); within = subst (IsResolvedIn nodes) e all }
+    record {
+      sorts = ap (λ (s : Resolved). map holds_objects s.contents) (sym e) ∙ sym (append_nil (map holds_objects r.contents));
+      within =
+          subst (IsResolvedIn nodes) e all;
+    }
 resolved_in nodes r t (d ∷ ds) few fitting all is =
     let a = both_ok (resolve nodes r d) (λ u. in_turn (resolve nodes) u ds) t is in
     let g = grows nodes r a.0 d fitting a.1 in
@@ -291,8 +300,13 @@ filled_forms [] (x ∷ xs) same = cc
 filled_forms (n ∷ nodes) [] same = cc
 filled_forms (n ∷ nodes) (x ∷ xs) same = ap (λ ys. form x ∷ ys) (filled_forms nodes xs (cc))
 
-filled_parameters : (nodes : List Node) (xs : List columns.Column) → AreAlike nodes xs → (ps : List (List ℕ × Kind)) → AreParametersIn nodes ps → AreParametersIn (filled nodes xs) ps
-filled_parameters nodes xs alike ps all = (all.0, all_map (λ (p : List ℕ × Kind). IsKindIn nodes p.1) (λ (p : List ℕ × Kind). IsKindIn (filled nodes xs) p.1) (λ p within. filled_kind nodes xs p.1 alike within) ps all.1)
+filled_parameters : (nodes : List Node) (xs : List columns.Column) → AreAlike nodes xs → (ps : List (List ℕ × Kind)) → AreParametersIn nodes ps →
+    AreParametersIn (filled nodes xs) ps
+filled_parameters nodes xs alike ps all = (
+  all.0,
+  all_map (λ (p : List ℕ × Kind). IsKindIn nodes p.1) (λ (p : List ℕ × Kind). IsKindIn (filled nodes xs) p.1)
+      (λ p within. filled_kind nodes xs p.1 alike within) ps all.1,
+)
 
 first_object : (nodes : List Node) (bs : List Bool) → map is_object_node nodes ≡ true ∷ bs → column_of nodes 0 ≡ Some column.Object
 first_object [] bs same = cc
@@ -317,6 +331,7 @@ outlines_within d o orderly is =
       columns = all_filled (IsHeldIn (filled nodes contents)) nodes contents same
           (all_map (IsHeldIn nodes) (IsHeldIn (filled nodes contents)) (λ x within. filled_held nodes contents x alike within) contents grown.within.contents);
       first_values = outline_firsts d.declarations a.0 b.0 orderly a.1 b.1;
-      procedures = all_map (AreParametersIn nodes) (AreParametersIn (filled nodes contents)) (filled_parameters nodes contents alike) b.0.procedures grown.within.procedures;
+      procedures = all_map (AreParametersIn nodes) (AreParametersIn (filled nodes contents)) (filled_parameters nodes contents alike) b.0.procedures
+          grown.within.procedures;
       views = all_map (AreParametersIn nodes) (AreParametersIn (filled nodes contents)) (filled_parameters nodes contents alike) b.0.views grown.within.views;
     })

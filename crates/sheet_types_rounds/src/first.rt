@@ -1,6 +1,5 @@
 // What columns tell by themselves.
-ghost use Rattle.std.specs.Prelude.{◌≡◌, ◌≤◌, length, true, slice_index_or, IfOk, option_map};
-ghost use Rattle.sheet_values.specs.declared.value.Kind.TheVariants as kind;
+ghost use Rattle.std.specs.Prelude.{◌≡◌, ◌≤◌, length, true, IfOk, option_map};
 ghost use Rattle.sheet_types_rules.specs.Columns.{kind_of_column as kind_by_itself, kinds_from};
 ghost use Rattle.sheet_types_rounds.specs.Rounds.{formula_in as formula_of_content, count_formulas as count_all, written_formulas, is_unknown as has_no_kind};
 
@@ -38,16 +37,6 @@ pub(crate) fn is_unknown(kind: Kind) -> bool
     ensures { result ≡ has_no_kind kind }
 {
     matches!(kind, Kind::Unknown)
-}
-
-/// The type of the column of that number, as far as it is known.
-pub(crate) fn kind_at(kinds: &[Kind], column: u32) -> Kind
-    ensures { result ≡ slice_index_or kinds.now column kind.Unknown }
-{
-    match kinds.get(column as usize) {
-        Some(kind) => *kind,
-        None => Kind::Unknown,
-    }
 }
 
 /// The formula that a column is written with.

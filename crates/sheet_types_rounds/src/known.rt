@@ -3,9 +3,10 @@ ghost use Rattle.std.specs.Prelude.{◌≡◌, ◌+◌, ◌<◌, [], false, leng
 ghost use Rattle.sheet_types_rounds.specs.Mentions.{is_among};
 ghost use Rattle.sheet_types_rounds.specs.Waiting.{with_name, IsOpen, HoldKnown, HoldKnownBelow};
 
-use crate::first::{is_unknown, kind_at};
+use crate::first::is_unknown;
 use indexmap::IndexSet;
 use sheet_columns::{Column, Columns};
+use sheet_types_formulas::kind_at;
 use sheet_values::{Kind, Name, NoMemory};
 use std::alloc::Global;
 use std::marker::Model;

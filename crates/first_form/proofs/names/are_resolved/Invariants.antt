@@ -4,4 +4,5 @@ use Rattle.first_form.specs.Naming.{is_resolved}
 use Rattle.first_form.proofs.names.are_resolved.Given as goal
 
 abbrev pub invariant-loop-declaration : goal.invariant-loop-declaration
-invariant-loop-declaration l = list_all (is_resolved l.states l.columns) (drop l.declaration-index l.declarations) ≡ list_all (is_resolved l.states l.columns) l.declarations
+invariant-loop-declaration l =
+    list_all (is_resolved l.states l.columns) (drop l.declaration-index l.declarations) ≡ list_all (is_resolved l.states l.columns) l.declarations

@@ -6,7 +6,8 @@ pub pieces-init : goal.pieces-init
 pieces-init g c = record { taken = taken_none _ _ (search rules); piece = search rules; later = search (rules, arith) }
 
 pub returns-in_err-read_piece-clause-stopped : goal.returns-in_err-read_piece-clause-stopped
-returns-in_err-read_piece-clause-stopped g c = on_err _ _ c.from_residual-in_err-read_piece.result _ (takes _ _ _ _ c.pieces.invariant.taken c.in_err-read_piece.ensures.stopped)
+returns-in_err-read_piece-clause-stopped g c =
+    on_err _ _ c.from_residual-in_err-read_piece.result _ (takes _ _ _ _ c.pieces.invariant.taken c.in_err-read_piece.ensures.stopped)
 
 pub returns-then-not-branch-clause-read : goal.returns-then-not-branch-clause-read
 returns-then-not-branch-clause-read g c =

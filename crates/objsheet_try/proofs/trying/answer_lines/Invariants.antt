@@ -7,8 +7,10 @@ use Rattle.objsheet_try.proofs.trying.answer_lines.Given as goal
 
 abbrev pub invariant-lines : goal.invariant-lines
 invariant-lines g l = record {
-  serves : WhereTold (ServesLines l.fn.session l.session) (both (rest l.fn.reader (g.S.Source.left l.fn.input)) (g.K.Sink.written l.fn.output)) (both (rest l.reader (g.S.Source.left l.input)) (g.K.Sink.written l.output));
-  counts : WhereTold (λ old new. l.reader.used + length new ≡ l.fn.reader.used + length old) (rest l.fn.reader (g.S.Source.left l.fn.input)) (rest l.reader (g.S.Source.left l.input));
+  serves : WhereTold (ServesLines l.fn.session l.session) (both (rest l.fn.reader (g.S.Source.left l.fn.input)) (g.K.Sink.written l.fn.output))
+      (both (rest l.reader (g.S.Source.left l.input)) (g.K.Sink.written l.output));
+  counts : WhereTold (λ old new. l.reader.used + length new ≡ l.fn.reader.used + length old) (rest l.fn.reader (g.S.Source.left l.fn.input))
+      (rest l.reader (g.S.Source.left l.input));
   source : g.S.Source.faults l.fn.input ≤ g.S.Source.faults l.input;
   sink : g.K.Sink.faults l.fn.output ≤ g.K.Sink.faults l.output;
 }

@@ -10,4 +10,6 @@ returns-in_default-2-clause-other g c =
     let text = c.in-Some.text.items in
     let P : List ℕ → Type 0 = λ t. (book : List Declaration) → IsFirstForm t book → ⊥ in
     let never : P c.as_slice.result.now = rw c.in_default-2.is at c.in_ok-definition.ensures in
-    λ _. other_definition text (rest c.args.reader.now (g.S.Source.left c.args.input.now)) (rest c.read_to_divider.new.reader (g.S.Source.left c.read_to_divider.new.input)) (rw c.in-Some.is at c.in_ok-text.ensures.text) (subst P c.as_slice.ensures.value never)
+    λ _. other_definition text (rest c.args.reader.now (g.S.Source.left c.args.input.now))
+    (rest c.read_to_divider.new.reader (g.S.Source.left c.read_to_divider.new.input)) (rw c.in-Some.is at c.in_ok-text.ensures.text)
+    (subst P c.as_slice.ensures.value never)

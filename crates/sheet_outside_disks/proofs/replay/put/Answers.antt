@@ -10,5 +10,6 @@ returns c =
     let some : 0 < length c.args.piece.now = search rules in
     with_items_is c.grow.new.bytes c.overwrite.new.bytes (omega (arith, c.overwrite.auto.bytes, c.deref_mut.ensures.len))
     ∙ c.overwrite.ensures
-    ∙ ap (λ (l : List ℕ). take c.args.place l ++ (c.args.piece.now ++ drop (c.args.place + length c.args.piece.now) l)) (items ∙ ap (λ n. c.args.bytes.now.items ++ replicate (n - length c.args.bytes.now.items) 0) end)
+    ∙ ap (λ (l : List ℕ). take c.args.place l ++ (c.args.piece.now ++ drop (c.args.place + length c.args.piece.now) l))
+    (items ∙ ap (λ n. c.args.bytes.now.items ++ replicate (n - length c.args.bytes.now.items) 0) end)
     ∙ put_padded c.args.bytes.now.items c.args.piece.now c.args.place some

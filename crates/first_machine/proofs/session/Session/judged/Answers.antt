@@ -20,4 +20,5 @@ pub returns-in-Err-LaterForm-clause-judged : goal.returns-in-Err-LaterForm-claus
 returns-in-Err-LaterForm-clause-judged c =
     let read = rw c.in-Err-LaterForm.field-0-is at c.in-Err-LaterForm.ensures in
     later_judged c.args.self.now c.args.line.now c.later-in-Err-LaterForm.result.0 c.later-in-Err-LaterForm.result.1
-    (subst (Act c.args.self.now c.args.line.now) (ap (for_request c.args.self.now) read.2) (request read.0 (omega arith) read.1)) c.later-in-Err-LaterForm.ensures.reply c.later-in-Err-LaterForm.ensures.change
+    (subst (Act c.args.self.now c.args.line.now) (ap (for_request c.args.self.now) read.2) (request read.0 (omega arith) read.1))
+    c.later-in-Err-LaterForm.ensures.reply c.later-in-Err-LaterForm.ensures.change

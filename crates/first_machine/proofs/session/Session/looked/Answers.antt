@@ -24,4 +24,5 @@ returns-clause-answers c =
 
 pub returns-clause-within : goal.returns-clause-within
 returns-clause-within c =
-    parts_within c.args.self.now c.self.inside.definition c.self.inside.stored.items c.in-Some.slots.now c.in_ok-page.page (ap (λ (m : Machine). m.book) c.self.view_is) (parts_are c)
+    parts_within c.args.self.now c.self.inside.definition c.self.inside.stored.items c.in-Some.slots.now c.in_ok-page.page
+    (ap (λ (m : Machine). m.book) c.self.view_is) (parts_are c)
