@@ -1,0 +1,9 @@
+pub mod AnswerLemmas
+pub mod Equality
+pub mod FormLemmas
+pub mod KeyLemmas
+pub mod PartLemmas
+pub mod Picking
+pub mod Reading
+pub mod TotalLemmas
+pub mod Unions

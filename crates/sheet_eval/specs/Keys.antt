@@ -1,0 +1,23 @@
+-- Items as keys in their order.
+use Rattle.std.specs.Prelude.{◌≡◌, ℕ, ◌==◌, if◌then◌else◌}
+use Rattle.sheet_columns.specs.ItemOrder.{kind_rank, object_of, column_of}
+use Rattle.sheet_columns.specs.declared.item.Item.{Item}
+use Rattle.sheet_columns.specs.declared.item.Item.TheVariants.{Live, Up, Extent, Stored}
+
+abbrev pub Key : Type 0
+Key = ℕ × ℕ × ℕ
+
+-- the kind, the object and the column
+abbrev pub key_of : Item → Key
+key_of i = (kind_rank i, object_of i, column_of i)
+
+-- the item of a key
+abbrev pub item_of : Key → Item
+item_of k =
+    if k.0 == 0 then Live k.1
+    else (if k.0 == 1 then Up k.1
+    else (if k.0 == 2 then Extent k.1 k.2
+    else Stored k.1 k.2))
+
+abbrev pub IsKey : Key → Type 0
+IsKey k = key_of (item_of k) ≡ k

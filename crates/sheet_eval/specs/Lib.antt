@@ -1,0 +1,10 @@
+pub mod Answer
+pub mod Held
+pub mod Keys
+pub mod Made
+pub mod Parts
+pub mod Popped
+pub mod SoFar
+pub mod Told
+pub mod Totals
+pub mod Turns

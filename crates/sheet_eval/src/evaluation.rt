@@ -1,0 +1,90 @@
+// One evaluation, and its answer.
+ghost use Rattle.std.specs.Prelude.{◌≡◌, ◌+◌, [], ◌∷◌, IfOk, OnOk, filter};
+ghost use Rattle.sheet_meaning.specs.Formula.{run};
+ghost use Rattle.sheet_meaning.specs.Support.{with_cells};
+ghost use Rattle.sheet_eval.specs.Answer.{IsAnswer, Answers};
+ghost use Rattle.sheet_eval.specs.Told.{world_told, lacks, used_cells, used_items, with_items};
+
+use crate::cells::Cells;
+use crate::lookup::Lookup;
+use crate::part::Part;
+use crate::reads::Reads;
+use crate::uses::Uses;
+use crate::variables::Variables;
+use crate::working::work;
+use sheet_columns::{Core, Fault, Place};
+use sheet_values::{NoMemory, Set, Steps};
+use std::alloc::Global;
+use std::sync::ledger::Ledger;
+
+/// What an evaluation comes to.
+#[derive(Drop)]
+pub enum Outcome {
+    /// The set of the formula.
+    Known(Set),
+    /// The formula has a fault; `cycle` stands for no result.
+    Fault(Fault),
+    /// These formula cells are used, and aren't worked out.
+    Need(Cells),
+}
+
+/// Works out a formula over what a lookup tells. A looked-up `cycle` is no result. `Need` holds exactly the formula cells that are used
+/// and that the lookup lacks, in the order of first use; it comes exactly where there is one. What is read is added to `reads`.
+pub fn evaluate<L: Lookup, G: Ledger>(
+    alloc: Global,
+    core: &Core,
+    place: Place,
+    variables: &Variables,
+    lookup: &L,
+    reads: &mut Reads,
+    steps: &mut Steps<G>,
+) -> Result<Outcome, NoMemory>
+    ensures answer { IfOk result (λ a. IsAnswer (L.told lookup.now) (run core.now (world_told (L.told lookup.now)) place variables.now) a) }
+    ensures items { OnOk result (reads.new.items ≡ with_items reads.old.items (used_items (run core.now (world_told (L.told lookup.now)) place variables.now).uses)) }
+    ensures cells { OnOk result (reads.new.cells ≡ with_cells reads.old.cells (used_cells (run core.now (world_told (L.told lookup.now)) place variables.now).uses)) }
+    ensures ticks { steps.new ≡ steps.old + 1 }
+{
+    steps.tick();
+    let mut uses = Uses::new(alloc);
+    let mut bound = Variables::new(alloc);
+    let outcome = work(alloc, core, place, lookup, variables, &mut bound, &mut uses)?;
+    let need = lacking(alloc, uses.cells(), lookup)?;
+    let answer = answer(outcome, need)?;
+    uses.tell(reads)?;
+    Ok(answer)
+}
+
+// The cells that the lookup lacks.
+fn lacking<L: Lookup>(alloc: Global, cells: &Cells, lookup: &L) -> Result<Cells, NoMemory>
+    ensures { IfOk result (λ need. need ≡ with_cells [] (filter (lacks (L.told lookup.now)) cells.now)) }
+{
+    let mut need = Cells::new(alloc);
+    for k in 0..cells.len() {
+        note_lacking(cells.at(k), lookup, &mut need)?;
+    }
+    Ok(need)
+}
+
+fn note_lacking<L: Lookup>(cell: (u64, u32), lookup: &L, need: &mut Cells) -> Result<(), NoMemory>
+    ensures { OnOk result (need.new ≡ with_cells need.old (filter (lacks (L.told lookup.now)) (cell ∷ []))) }
+{
+    if lookup.worked(cell.0, cell.1).is_none() {
+        need.push(cell)?;
+    }
+    Ok(())
+}
+
+fn answer(outcome: Result<Part<'_>, Fault>, need: Cells) -> Result<Outcome, NoMemory>
+    ensures { IfOk result (λ a. Answers need outcome.entry a) }
+{
+    if need.len() > 0 {
+        return Ok(Outcome::Need(need));
+    }
+    match outcome {
+        Ok(part) => {
+            let set = part.into_set()?;
+            Ok(Outcome::Known(set))
+        }
+        Err(fault) => Ok(Outcome::Fault(fault)),
+    }
+}
