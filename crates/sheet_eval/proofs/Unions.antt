@@ -49,8 +49,7 @@ module _ {A : Type 0} (cmp : A → A → Ordering) (total : IsTotalOrder cmp) (s
             by x z zs Less less
             ∙ sym (ap (insert cmp y) (by x z zs Less less) ∙ by y x (z ∷ zs) Greater (turned_less x y e) ∙ ap (λ l. x ∷ l) (by y z zs Equal f))
         | Greater ↦ λ f.
-            elim (cmp x z) as (λ r. cmp x z ≡ r → insert cmp x (z ∷ insert cmp y zs) ≡ insert cmp y (by_order r (x ∷ z ∷ zs) (z ∷ zs) (z ∷ insert cmp x zs)))
-            [
+            elim (cmp x z) as (λ r. cmp x z ≡ r → insert cmp x (z ∷ insert cmp y zs) ≡ insert cmp y (by_order r (x ∷ z ∷ zs) (z ∷ zs) (z ∷ insert cmp x zs))) [
               | Less ↦ λ g.
                   by x z (insert cmp y zs) Less g
                   ∙ sym (by y x (z ∷ zs) Greater (turned_less x y e) ∙ ap (λ l. x ∷ l) (by y z zs Greater f))

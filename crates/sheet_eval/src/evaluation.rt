@@ -5,14 +5,11 @@ ghost use Rattle.sheet_meaning.specs.Support.{with_cells};
 ghost use Rattle.sheet_eval.specs.Answer.{IsAnswer, Answers};
 ghost use Rattle.sheet_eval.specs.Told.{world_told, lacks, used_cells, used_items, with_items};
 
-use crate::cells::Cells;
 use crate::lookup::Lookup;
 use crate::part::Part;
-use crate::reads::Reads;
 use crate::uses::Uses;
-use crate::variables::Variables;
 use crate::working::work;
-use sheet_columns::{Core, Fault, Place};
+use sheet_columns::{Cells, Core, Fault, Place, Reads, Variables};
 use sheet_values::{NoMemory, Set, Steps};
 use std::alloc::Global;
 use std::sync::ledger::Ledger;

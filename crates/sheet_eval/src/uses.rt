@@ -6,9 +6,7 @@ ghost use Rattle.sheet_eval.specs.Keys.{key_of as the_key_of, item_of as the_ite
 ghost use Rattle.sheet_meaning.specs.declared.run.Use.TheVariants.{Read};
 ghost use Rattle.sheet_eval.specs.Told.{Noted, note, with_items};
 
-use crate::cells::Cells;
-use crate::reads::Reads;
-use sheet_columns::{Item, Items};
+use sheet_columns::{Cells, Item, Items, Reads};
 use sheet_meaning::Use;
 use sheet_values::NoMemory;
 use std::alloc::Global;

@@ -16,8 +16,7 @@ use crate::part::Part;
 use crate::parts::{both, is_none, truth};
 use crate::total::{Aggregate, Total};
 use crate::uses::Uses;
-use crate::variables::Variables;
-use sheet_columns::{Connective, Core, Fault, Place};
+use sheet_columns::{Connective, Core, Fault, Place, Variables};
 use sheet_values::{NoMemory, Set, Value};
 use std::alloc::Global;
 
