@@ -24,7 +24,7 @@ use Rattle.sheet_syntax_trees.specs.Grammar.{no_prefix, no_step, a_child}
 use Rattle.sheet_syntax_trees.specs.Refusals.{a_bracket, a_form, Admits}
 use Rattle.sheet_syntax_trees.proofs.Contexts.{at_atom}
 use Rattle.sheet_syntax_trees.proofs.Soundness.{Stands, Begins, nonempty, within_sound, atom_sound, step_produced}
-use Rattle.sheet_syntax_trees.proofs.Stopping.{Stop, waits, crowded, deep, within_stops, too_deep, lifted as stop_lifted}
+use Rattle.sheet_syntax_trees.proofs.Stopping.{Stop, waits, crowded, deep, within_stops, atom_stops, too_deep, lifted as stop_lifted}
 use Rattle.sheet_define_data.specs.Grammar.{of_object}
 use Rattle.sheet_define_reading.specs.Reading.{alone}
 use Rattle.sheet_define_reading.proofs.Soundness.{target_sound, limits}

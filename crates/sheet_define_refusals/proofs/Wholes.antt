@@ -27,7 +27,7 @@ use Rattle.sheet_define_data.specs.Grammar.{more_declarations, BeginsDefinition}
 use Rattle.sheet_define_refusals.specs.Refusals as spec
 use Rattle.sheet_define_refusals.specs.Refusals.{NoneBegins, IsFirstOfDefinition, IsSomeDefinition, AdmitsFormula, AdmitsTarget, IsTooNestedDefinition}
 use Rattle.sheet_define_refusals.specs.Refusals.{IsFirstTooNested}
-use Rattle.sheet_define_refusals.proofs.Formulas.{divided}
+use Rattle.sheet_syntax_trees.proofs.Refusing.{divided}
 use Rattle.sheet_define_refusals.proofs.Blocked.{all_err, found_is, blocked}
 use Rattle.sheet_define_refusals.proofs.Moving.{lim, Moved, moved_front, moved_join, moved_tokens, Expr, Aim, APath, ACol, Proc, AView, target_moved}
 use Rattle.sheet_define_refusals.proofs.Halting.{Sample, Context, flat, Cause, expected, formula, target, a_block, Halt, lifted, known, halt_here, Behind, word}

@@ -17,7 +17,8 @@ use Rattle.sheet_columns.specs.declared.fault.Place.{Place}
 use Rattle.sheet_values.specs.declared.value.Value.{Value}
 use Rattle.sheet_values.specs.Sets.{union}
 use Rattle.sheet_meaning.specs.declared.run.Run.{Run}
-use Rattle.sheet_meaning.specs.Run.{Outcome, after, both_outcomes, finish, and_then, all, done, given, connect, second_truth, both}
+use Rattle.sheet_meaning.specs.Run.{Outcome, after, both_outcomes, finish, and_then, all, done, given, connect, second_truth}
+use Rattle.sheet_meaning.proofs.Relation.{behind_fault, as_part}
 use Rattle.sheet_meaning.specs.Formula.{World, Variables, run, run_each, truth, step, gathered, joined, single, told}
 use Rattle.sheet_eval.specs.Made.{made_of_one, made_of_two, unary_run, binary_run}
 use Rattle.sheet_eval.specs.Parts.{truth_of}
@@ -156,8 +157,7 @@ truth_came p c e = record { outcome = e ∙ ap (truth_of p) c.outcome; uses = c.
 skipped : (c : Connective) (b : Run Bool) (x : Outcome Bool) → skips c x ≡ true → (n : Noted) → Came (finish (second_truth c x b) told) n (after x told) n
 skipped c b (Ok a) s n = subst (λ t. Came (finish (if t then done a else b) told) n (told a) n) (sym s) (record { outcome = refl; uses = refl })
 skipped c b (Err e) s n =
-    subst (λ t. Came (finish (if t then given (Err e) else finish (both (given (Err e)) b) (λ (z : Bool × Bool). Ok z.1)) told) n (Err e) n) (sym s)
-    (record { outcome = refl; uses = refl })
+    subst (λ t. Came (finish (if t then given (Err e) else behind_fault e b) told) n (Err e) n) (sym s) (record { outcome = refl; uses = refl })
 
 second_alone : (a : Bool) (y : Outcome Bool) → after (after (both_outcomes (Ok a) y) (λ z. Ok z.1)) told ≡ after y told
 second_alone a (Ok b) = refl
@@ -172,9 +172,10 @@ not_skipped c b (Ok a) y {n} {m} s d =
     subst (λ t. Came (finish (if t then done a else b) told) n (after (after (both_outcomes (Ok a) y) (λ z. Ok z.1)) told) m) (sym s)
     (record { outcome = second_alone a y ∙ ap (λ o. after o told) d.outcome; uses = d.uses })
 not_skipped c b (Err e) y {n} {m} s d =
-    subst (λ t. Came (finish (if t then given (Err e) else finish (both (given (Err e)) b) (λ (z : Bool × Bool). Ok z.1)) told) n
+    subst (λ t. Came (finish (if t then given (Err e) else behind_fault e b) told) n
     (after (after (both_outcomes (Err e) y) (λ (z : Bool × Bool). Ok z.1)) told) m) (sym s)
-    (finish_came told (finish_came (λ (z : Bool × Bool). Ok z.1) (both_came (first_fault e n) d)))
+    (subst (λ r. Came (finish r told) n (after (after (both_outcomes (Err e) y) (λ (z : Bool × Bool). Ok z.1)) told) m) (as_part e b)
+    (finish_came told (finish_came (λ (z : Bool × Bool). Ok z.1) (both_came (first_fault e n) d))))
 
 pub connect_skipped : (c : Connective) (a b : Run Bool) {x : Outcome Bool} {o : Outcome (List Value)} {u0 u1 : Noted} → Came a u0 x u1 → skips c x ≡ true
     → o ≡ after x told → Came (finish (connect c a b) told) u0 o u1
