@@ -1,4 +1,4 @@
-use Rattle.std.proofs.Common.{sym, ◌∙◌, Ok, Err}
+use Rattle.std.proofs.Common.{sym, ap, ◌∙◌, Ok, Err}
 use Rattle.sheet_meaning.specs.Statements.{run_statement, run_statements}
 use Rattle.plain_procedures.specs.Points.{as_point}
 use Rattle.plain_procedures.specs.Blocks.{turn}
@@ -69,3 +69,15 @@ run_turns-returns t c =
     let p = as_point c.args.point in
     turns_chain body xs p ∙ chain_all (turn body) xs c.loop-value.value-index p (Ok (as_point c.loop-value.point)) c.loop-value-test.false
     c.loop-value.invariant
+
+pub run_statement-returns-in-Change : goal.run_statement-returns-in-Change
+run_statement-returns-in-Change t c =
+    same_end c.change.result (sym (ap (λ x. run_statement x c.args.schema.now (as_point c.args.point)) c.in-Change.is)) c.change.ensures
+
+pub run_statement-returns-in-New : goal.run_statement-returns-in-New
+run_statement-returns-in-New t c =
+    same_end c.create.result (sym (ap (λ x. run_statement x c.args.schema.now (as_point c.args.point)) c.in-New.is)) c.create.ensures
+
+pub run_statement-returns-in-Check : goal.run_statement-returns-in-Check
+run_statement-returns-in-Check t c =
+    same_end c.check.result (sym (ap (λ x. run_statement x c.args.schema.now (as_point c.args.point)) c.in-Check.is)) c.check.ensures
