@@ -12,4 +12,4 @@ mod token;
 
 pub use definition::{Declaration, Definition, Slot, Slots, Term, Terms};
 pub use law::text_means_one_definition;
-pub use read::{LONGEST_DEFINITION, read_first_form};
+pub use read::read_first_form;

@@ -6,11 +6,8 @@ use crate::definition::Definition;
 use crate::lexer::tokens_of;
 use crate::names::is_well_named;
 use crate::parser::declarations_at;
-use sheet_values::NoMemory;
+use sheet_values::{LONGEST_DEFINITION, NoMemory};
 use std::alloc::Global;
-
-/// The greatest length of a definition, in bytes.
-pub const LONGEST_DEFINITION: usize = 262_144;
 
 /// The definition that a text stands for, where it is one of the first form.
 pub fn read_first_form(alloc: Global, text: &[u8]) -> Result<Option<Definition>, NoMemory>

@@ -10,11 +10,10 @@ use crate::phrase::{book_line, definition_line, type_line};
 use objsheet_status::{DONE, OUT_OF_MEMORY, REFUSED, SOURCE_FAILED, write_last_line};
 use sheet_define::{Definition, read_definition};
 use sheet_define_reading::texts_stand_for_one_definition;
-use sheet_lines::LONGEST_DEFINITION;
 use sheet_outside::{Failed, Sink, Source};
 use sheet_types::elaborate;
 use sheet_types_outline::texts_are_orderly;
-use sheet_values::NoMemory;
+use sheet_values::{LONGEST_DEFINITION, NoMemory};
 use std::alloc::{AllocError, Global};
 
 const PIECE: usize = 16_384;

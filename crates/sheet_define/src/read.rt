@@ -7,16 +7,14 @@ ghost use Rattle.sheet_define.specs.Definitions.{line_at as line_of_offset, Defi
 use crate::declaration::declarations;
 use sheet_define_data::Definition;
 use sheet_syntax::{SyntaxRefusal, lex};
+use sheet_values::LONGEST_DEFINITION;
 use std::alloc::Global;
 use std::str;
-
-/// The greatest length of a definition's text in bytes.
-const GREATEST_LENGTH: usize = 262_144;
 
 /// Why a text is no definition.
 #[derive(Clone, Copy, Debug, PartialEq, Eq)]
 pub enum DefinitionRefusal {
-    /// It has this length, over 262,144 bytes.
+    /// It has this length, over `LONGEST_DEFINITION`.
     TooLong(usize),
     /// At this offset begins no UTF-8 character.
     NotUtf8(usize),
@@ -28,7 +26,7 @@ pub enum DefinitionRefusal {
 
 // The line of an offset, from 1.
 fn line_at(text: &[u8], offset: usize) -> u32
-    requires { length text.now ≤ 262144 }
+    requires { length text.now ≤ LONGEST_DEFINITION }
     ensures { result ≡ line_of_offset text.now offset }
 {
     let (front, _) = text.split_at(offset.min(text.len()));
@@ -37,7 +35,7 @@ fn line_at(text: &[u8], offset: usize) -> u32
 }
 
 fn placed(text: &[u8], refusal: SyntaxRefusal) -> DefinitionRefusal
-    requires { length text.now ≤ 262144 }
+    requires { length text.now ≤ LONGEST_DEFINITION }
     ensures { Placed text.now refusal result }
 {
     match refusal {
@@ -52,7 +50,7 @@ fn placed(text: &[u8], refusal: SyntaxRefusal) -> DefinitionRefusal
 }
 
 fn read_tokens(alloc: Global, text: &[u8]) -> Result<Definition, SyntaxRefusal>
-    requires { length text.now ≤ 262144 }
+    requires { length text.now ≤ LONGEST_DEFINITION }
     ensures { Reads (λ d. d.declarations) result (definition_read text.now) }
 {
     let tokens = lex(alloc, text)?;
@@ -62,7 +60,7 @@ fn read_tokens(alloc: Global, text: &[u8]) -> Result<Definition, SyntaxRefusal>
 
 /// The definition that a text stands for.
 ///
-/// `TooLong` with its length where that is over 262,144 bytes; else `NotUtf8` with the offset of the first byte that begins
+/// `TooLong` with its length where that is over `LONGEST_DEFINITION`; else `NotUtf8` with the offset of the first byte that begins
 /// no UTF-8 character; else `Syntax` with the line of the offset that its refusal carries: `BadToken` and `NumberTooWide`
 /// as of `lex`, `Expected` at the first token such that the tokens up to it begin no definition, or at the text's length
 /// where it ends too early, and `TooNested` at the 33rd open bracket of a formula, at the first token of a form of depth
@@ -70,7 +68,7 @@ fn read_tokens(alloc: Global, text: &[u8]) -> Result<Definition, SyntaxRefusal>
 pub fn read_definition(alloc: Global, bytes: &[u8]) -> Result<Definition, DefinitionRefusal>
     ensures { Defines bytes.now result }
 {
-    if bytes.len() > GREATEST_LENGTH {
+    if bytes.len() > LONGEST_DEFINITION {
         return Err(DefinitionRefusal::TooLong(bytes.len()));
     }
     if let Err(e) = str::from_utf8(bytes) {

@@ -11,10 +11,8 @@ use crate::line::without_return;
 use crate::reader::{LineReader, Part};
 use crate::stop::ReadStop;
 use sheet_outside::Source;
+use sheet_values::LONGEST_DEFINITION;
 use std::alloc::Global;
-
-/// The greatest length of a definition in bytes.
-pub const LONGEST_DEFINITION: usize = 262_144;
 
 const DIVIDER: &[u8] = b"%%";
 

@@ -7,7 +7,7 @@ mod reader;
 mod send;
 mod stop;
 
-pub use definition::{LONGEST_DEFINITION, read_to_divider};
+pub use definition::read_to_divider;
 pub use line::without_return;
 pub use reader::{LONGEST_INPUT, LineEnd, LineReader};
 pub use send::write_all;

@@ -45,6 +45,7 @@ value_data (Number z) = number (of_integer z)
 value_data (Text s) = string s
 value_data (Object o) = field (codes "object") (number (unsigned o))
 
+-- values, least first
 abbrev pub values_data : List Value → Data
 values_data vs = list_data value_data vs
 
@@ -54,6 +55,7 @@ place_data nodes (Cell o c) = field (codes "cell") (array (items_of (string (pat
 place_data nodes (Statement k) = field (codes "statement") (number (unsigned k))
 place_data nodes (Slot k) = field (codes "slot") (number (unsigned k))
 
+-- how many there were where one was wanted
 abbrev pub found_word : NotOne → List ℕ
 found_word Zero = codes "zero"
 found_word Many = codes "many"
@@ -62,10 +64,12 @@ found_word Many = codes "many"
 abbrev pub placed_fault : List ℕ → Data → Data
 placed_fault word place = object (member (codes "fault") (string word) (member (codes "place") place no_members))
 
+-- a set that was to have one value
 abbrev pub not_one_fault : List ℕ → Data → Data
 not_one_fault found place =
     object (member (codes "fault") (string (codes "not one")) (member (codes "found") (string found) (member (codes "place") place no_members)))
 
+-- a fault by its word and its place; a cycle has none
 abbrev pub fault_data : List Node → Fault → Data
 fault_data nodes fault.Cycle = field (codes "fault") (string (codes "cycle"))
 fault_data nodes (fault.NotOne found place) = not_one_fault (found_word found) (place_data nodes place)
@@ -78,34 +82,42 @@ abbrev pub shown_data : List Node → Result (List Value) Fault → Data
 shown_data nodes (Ok values) = values_data values
 shown_data nodes (Err f) = fault_data nodes f
 
+-- a row: what it is of, and what its columns show
 abbrev pub row_data : List Node → Row → Data
 row_data nodes row = object (member (codes "of") (value_data row.of) (member (codes "shows") (list_data (shown_data nodes) row.shows) no_members))
 
+-- the rows of a table, or the fault in their place
 abbrev pub rows_data : List Node → Result (List Row) Fault → Data
 rows_data nodes (Ok rows) = list_data (row_data nodes) rows
 rows_data nodes (Err f) = fault_data nodes f
 
+-- names, in order
 abbrev pub names_data : List (List ℕ) → Data
 names_data names = list_data string names
 
+-- a table: its name, the names of its columns, its rows
 abbrev pub table_data : List ℕ → Data → Data → Data
 table_data name names rows =
     object (member (codes "name") (string name) (member (codes "names") names (member (codes "table") rows no_members)))
 
+-- a slot or a table of a page
 abbrev pub part_data : List Node → Part → Data
 part_data nodes (Show name shown) = object (member (codes "name") (string name) (member (codes "shows") (shown_data nodes shown) no_members))
 part_data nodes (Table name names rows) = table_data name (names_data names) (rows_data nodes rows)
 
+-- an error without a further field
 abbrev pub error_data : List ℕ → Data
 error_data word = field (codes "error") (string word)
 
--- an error with one more field, which stands before it or behind it
+-- an error before one more field
 abbrev pub error_with : List ℕ → List ℕ → Data → Data
 error_with word name d = object (member (codes "error") (string word) (member name d no_members))
 
+-- an error behind one more field
 abbrev pub error_behind : List ℕ → Data → List ℕ → Data
 error_behind name d word = object (member name d (member (codes "error") (string word) no_members))
 
+-- why no request was read
 abbrev pub wire_data : WireRefusal → Data
 wire_data wire.NotJson = error_data (codes "not json")
 wire_data (wire.BadShape f) = error_with (codes "bad shape") (codes "field") (string f)
@@ -114,6 +126,7 @@ wire_data (wire.TextTooLong f) = error_with (codes "text too long") (codes "fiel
 wire_data wire.LaterForm = error_data (codes "later form")
 wire_data wire.NoMemory = error_data (codes "no memory")
 
+-- what is full
 abbrev pub which_word : Which → List ℕ
 which_word which.Objects = codes "objects"
 which_word which.Cells = codes "cells"
@@ -122,6 +135,7 @@ which_word which.Numbers = codes "numbers"
 which_word which.Reply = codes "reply"
 which_word which.Requests = codes "requests"
 
+-- why a request isn't accepted; the fields of an object stand in the order of their names
 abbrev pub refusal_data : List Node → Refusal → Data
 refusal_data nodes refused.DiskFault = error_data (codes "disk fault")
 refusal_data nodes refused.UnknownKey = error_data (codes "unknown key")
@@ -150,6 +164,7 @@ refusal_data nodes (refused.NotOneCell o c n) =
     (member (codes "count") (number (unsigned n)) (member (codes "error") (string (codes "not one cell")) no_members)))
 refusal_data nodes refused.NoMemory = error_data (codes "no memory")
 
+-- an item by its word, its object, and its column's path where it has one
 abbrev pub item_data : List Node → Item → Data
 item_data nodes (Live o) = array (items_of (string (codes "live") ∷ number (unsigned o) ∷ []))
 item_data nodes (Up o) = array (items_of (string (codes "up") ∷ number (unsigned o) ∷ []))
@@ -161,6 +176,7 @@ abbrev pub answer_data : ℕ → Answer → Data
 answer_data n (Values set) = object (member (codes "number") (number (unsigned n)) (member (codes "reply") (values_data set) no_members))
 answer_data n (Caller c) = object (member (codes "caller") (number (unsigned c)) (member (codes "number") (number (unsigned n)) no_members))
 
+-- the four counts
 abbrev pub stats_data : ℕ → ℕ → ℕ → ℕ → Data
 stats_data accepted callers kept objects =
     object
@@ -168,6 +184,7 @@ stats_data accepted callers kept objects =
     (member (codes "callers") (number (unsigned callers))
     (member (codes "kept") (number (unsigned kept)) (member (codes "objects") (number (unsigned objects)) no_members))))
 
+-- a reply
 abbrev pub reply_data : List Node → Reply → Data
 reply_data nodes (Accepted n answer) = answer_data n answer
 reply_data nodes (Kept n answer) = answer_data n answer
@@ -181,6 +198,7 @@ reply_data nodes (Refused refusal) = refusal_data nodes refusal
 abbrev pub body : List Node → Reply → List ℕ
 body nodes reply = compact_text (reply_data nodes reply)
 
+-- the status code where no request was read
 abbrev pub wire_code : WireRefusal → ℕ
 wire_code wire.NotJson = 400
 wire_code (wire.BadShape f) = 400
@@ -189,6 +207,7 @@ wire_code (wire.TextTooLong f) = 400
 wire_code wire.LaterForm = 400
 wire_code wire.NoMemory = 507
 
+-- the status code where a request isn't accepted
 abbrev pub refusal_code : Refusal → ℕ
 refusal_code refused.DiskFault = 503
 refusal_code refused.UnknownKey = 403

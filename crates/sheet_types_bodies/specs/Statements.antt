@@ -1,5 +1,5 @@
 -- Statements with their names resolved, or the first refusal in the order of the text.
-use Rattle.std.specs.Prelude.{ℕ, ◌+◌, Bool, true, false, if◌then◌else◌, List, [], ◌∷◌, ◌++◌, Ok, slice_index_or}
+use Rattle.std.specs.Prelude.{ℕ, ◌+◌, if◌then◌else◌, List, [], ◌∷◌, ◌++◌, Ok, slice_index_or}
 use Rattle.sheet_values.specs.declared.value.Kind.{Kind}
 use Rattle.sheet_values.specs.declared.value.Kind.TheVariants as kind
 use Rattle.sheet_columns.specs.declared.tree.Node.{Node}
@@ -13,6 +13,7 @@ use Rattle.sheet_columns.specs.declared.statement.Statements.{Statements}
 use Rattle.sheet_syntax_trees.specs.declared.tree.Tree.{Tree}
 use Rattle.sheet_define_data.specs.declared.statement.Target.{Target}
 use Rattle.sheet_define_data.specs.declared.statement.Statement.{Statement, Let, Set, Add, Remove, New, Delete, Check, Reply, If', IfElse', For', Row_of-Statement, end_of-Statement as end, more_of-Statement as more}
+use Rattle.sheet_books.specs.Books.{is_known}
 use Rattle.sheet_types_formulas.specs.declared.scope.Typed.{Typed}
 use Rattle.sheet_types_formulas.specs.Answers.{Answer, ◌>>=◌}
 use Rattle.sheet_types_formulas.specs.Kinds.{agreed, column_above}
@@ -50,11 +51,6 @@ listed xs = record { list = xs }
 -- a formula that must agree with that type
 unfoldable pub formula_of : Kind → Tree → Reach → Answer Core
 formula_of k e r = typed e r >>= (λ v. agreed r.columns k v >>= (λ l. Ok v.core))
-
--- whether a type is known
-abbrev pub is_known : Kind → Bool
-is_known kind.Unknown = false
-is_known k = true
 
 -- what is deleted: objects below the root, or a set whose type isn't known
 unfoldable pub deletable : List Node → Typed → Answer Core

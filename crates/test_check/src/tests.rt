@@ -2,8 +2,8 @@
 use crate::checked;
 use objsheet_check::check;
 use objsheet_status::{DONE, REFUSED, SINK_FAILED, SOURCE_FAILED};
-use sheet_lines::LONGEST_DEFINITION;
 use sheet_outside::{MemorySink, MemorySource};
+use sheet_values::LONGEST_DEFINITION;
 use std::alloc::Global;
 use std::test::Fail;
 

@@ -1,5 +1,6 @@
 // Texts of the first form, and others.
-use first_form::{LONGEST_DEFINITION, read_first_form, text_means_one_definition};
+use first_form::{read_first_form, text_means_one_definition};
+use sheet_values::LONGEST_DEFINITION;
 use std::alloc::Global;
 use std::test::Fail;
 

@@ -1,8 +1,6 @@
-use sheet_lines::{
-    LONGEST_DEFINITION, LineEnd, LineReader, ReadStop, read_to_divider, without_return, write_all,
-};
+use sheet_lines::{LineEnd, LineReader, ReadStop, read_to_divider, without_return, write_all};
 use sheet_outside::{Failed, MemorySource, SureSink, SureSource};
-use sheet_values::NoMemory;
+use sheet_values::{LONGEST_DEFINITION, NoMemory};
 use std::test::Fail;
 
 #[test]

@@ -2,8 +2,8 @@
 use first_machine::LONGEST_REQUEST;
 use objsheet_status::{DONE, REFUSED, SINK_FAILED, SOURCE_FAILED};
 use objsheet_try::try_lines;
-use sheet_lines::LONGEST_DEFINITION;
 use sheet_outside::{MemorySink, MemorySource, SureSink, SureSource};
+use sheet_values::LONGEST_DEFINITION;
 use std::alloc::Global;
 use std::test::Fail;
 
