@@ -1,6 +1,6 @@
 -- What a feed tells of the bytes that it holds.
-use Rattle.std.proofs.Common.{◌≡◌, ℕ, zero, suc, refl, ◌+◌, ◌-◌, ◌<◌, ◌≤◌, Bool, true, false, List, [], ◌∷◌, ◌++◌, length, take, drop, map, sym, ap}
-use Rattle.std.proofs.Common.{◌∙◌, subst, arith, append_assoc, inl, inr, Result, Ok, Err, length-append}
+use Rattle.std.proofs.Common.{◌≡◌, ◌≢◌, ℕ, zero, suc, refl, ◌+◌, ◌-◌, ◌<◌, ◌≤◌, Bool, true, false, List, [], ◌∷◌, ◌++◌, length, take, drop, map, sym, ap}
+use Rattle.std.proofs.Common.{◌∙◌, subst, arith, append_assoc, inl, inr, Result, Ok, Err, length-append, get_or}
 use Rattle.std.specs.Prelude.{slice_range, bytes_eq, codes, IsUtf8, ◌&&◌, ◌==◌, nat_lt, nat_le, if◌then◌else◌}
 use Rattle.std.specs.List.{position_or_len}
 use Rattle.std.specs.Str.{is_utf8}
@@ -28,12 +28,13 @@ use Rattle.sheet_http.specs.Heads.{IsNamePlace, FindsRoute, Judges}
 use Rattle.sheet_http.specs.Fields.{NameAndValue}
 use Rattle.sheet_http.specs.Paths.{routed}
 use Rattle.sheet_http.specs.Knowing.{IsDemanded, Knows, Settles}
+use Rattle.sheet_http.specs.Waiting.{IsShort, bytes_wanted}
 use Rattle.sheet_http.specs.Stream.{longest_head, Heads, IsHopeless, AsksFirst, RefusesFirst, head as by_head, hopeless as by_line, long as by_length}
 use Rattle.sheet_http.specs.Stream.{HasNoStep}
 use Rattle.std.specs.Prelude.{Option, Some, None}
 use Rattle.sheet_http.specs.Searching.{IsOpen}
 use Rattle.sheet_http.specs.Steps.{AreWithin, room}
-use Rattle.sheet_http.proofs.SearchLemmas.{head_ends}
+use Rattle.sheet_http.proofs.SearchLemmas.{head_ends, open_more, open_all}
 use Rattle.sheet_http.proofs.StreamLemmas.{heads-append, refuses-append, hopeless_cut, hopeless_within, one_head, not_hopeless, not_long, ok_or_err}
 
 -- no head yet, and none is ruled out
@@ -308,3 +309,25 @@ pub settles_knows : (b : List ℕ) (k : Known) → Settles b k → Knows b k
 settles_knows b (known.Open n) x = x.0
 settles_knows b (known.Refused e c) x = x
 settles_knows b (known.Asked d n) x = x
+
+-- ---- what a feed waits for
+
+-- fewer bytes are there than are wanted
+pub waits : (b : List ℕ) (k : Known) (n : ℕ) → Knows b k → n ≡ bytes_wanted k → length b < n → HasNoStep b × (length b < room)
+waits b (known.Open _) n x all less = absurd (omega (arith, all, less))
+waits b (known.Refused _ _) n x all less = absurd (omega (arith, all, less))
+waits b (known.Asked d m) n x all less = more_step b d m x (omega (arith, all, less, x.within))
+
+pub settles_short : (b : List ℕ) (k : Known) → Settles b k → IsShort k
+settles_short b (known.Open n) x = tt
+settles_short b (known.Refused e c) x = tt
+settles_short b (known.Asked d n) x = (x.short, x.few)
+
+-- one byte came, which is no line feed
+pub one_more : (b : List ℕ) (p : ℕ) → IsOpen b p → length b ≡ p + 1 → length b < longest_head → get_or b p 0 ≢ 10
+    → IsOpen b (length b) × HasNoStep b × (length b < room)
+one_more b p old one short other =
+    let more = open_more b p (get_or b p 0) old (omega (arith, one)) (omega (arith, one, short)) refl other in
+    let all : IsOpen b (length b) = subst (IsOpen b) (sym one) more in
+    let none = open_step b short (open_all b (length b) all refl) all.hope in
+    (all, none.0, none.1)

@@ -6,4 +6,5 @@ pub mod Stream
 pub mod Steps
 pub mod Searching
 pub mod Knowing
+pub mod Waiting
 pub mod Responses

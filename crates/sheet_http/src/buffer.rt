@@ -57,17 +57,41 @@ impl Buffer {
         &self.bytes[self.start..]
     }
 
+    /// How many bytes are held.
+    #[inline]
+    pub fn len(&self) -> usize
+        ensures count { result ≡ length self.now }
+        ensures room { result ≤ room }
+    {
+        self.bytes.len() - self.start
+    }
+
     /// How many more bytes there is room for.
     #[inline]
     fn left(&self) -> usize
         ensures { result ≡ room - length self.now }
     {
-        ROOM - (self.bytes.len() - self.start)
+        ROOM - self.len()
     }
 
     /// Adds as much of the piece as there is room for, and answers how much.
     #[inline]
     pub fn push(&mut self, piece: &[u8]) -> usize
+        ensures count { result ≡ min (length piece.now) (room - length self.old) }
+        ensures bytes { self.new ≡ self.old ++ take result piece.now }
+    {
+        match piece {
+            [byte] if self.bytes.len() < ROOM => {
+                self.bytes.push_reserved(*byte);
+                1
+            }
+            _ => self.push_several(piece),
+        }
+    }
+
+    // The same, by a copy.
+    #[inline(never)]
+    fn push_several(&mut self, piece: &[u8]) -> usize
         ensures count { result ≡ min (length piece.now) (room - length self.old) }
         ensures bytes { self.new ≡ self.old ++ take result piece.now }
     {
@@ -89,5 +113,9 @@ impl Buffer {
         ensures { self.new ≡ drop count self.old }
     {
         self.start += count;
+        if self.start == self.bytes.len() {
+            self.bytes.clear();
+            self.start = 0;
+        }
     }
 }

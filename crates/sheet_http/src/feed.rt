@@ -1,9 +1,11 @@
 // The bytes of a connection, and the steps that they hold.
-ghost use Rattle.std.specs.Prelude.{◌≡◌, ◌≤◌, ◌+◌, ◌-◌, ◌++◌, [], List, ℕ, length, take, drop, min, slice_range, IfOk, OnErr, Some, None, IsTrue, true, ◌<◌};
+ghost use Rattle.std.specs.Prelude.{◌≡◌, ◌≤◌, ◌+◌, ◌-◌, ◌++◌, [], List, ℕ, length, take, drop, min, slice_range, IfOk, IfSome, OnErr, Some, None, true, ◌<◌};
 ghost use Rattle.httparse.specs.Grammar.{RequestHead};
 ghost use Rattle.httparse.specs.Spans.{IsRequestAt, IsRequestWithin};
 ghost use Rattle.sheet_http.specs.Heads.{route_from, is_route_name, has_name, shifted};
 ghost use Rattle.sheet_http.specs.Knowing.{IsDemanded, Knows, Settles};
+ghost use Rattle.sheet_http.specs.Searching.{IsOpen};
+ghost use Rattle.sheet_http.specs.Waiting.{IsShort, bytes_wanted};
 ghost use Rattle.sheet_http.specs.Stream.{HasNoStep};
 ghost use Rattle.sheet_http.specs.Steps.{Gives, Tells, places_of, room};
 
@@ -11,7 +13,7 @@ use crate::buffer::Buffer;
 use crate::head::{Demand, judge_head};
 use crate::refusal::HttpRefusal;
 use crate::routes::{Kind, Routes};
-use crate::search::{Found, search};
+use crate::search::{Found, LONGEST_HEAD, search};
 use httparse::spans::{EMPTY_HEADER_SPAN, HeaderSpan, RequestSpans, Span};
 use sheet_requests::Route;
 use sheet_values::{Name, NoMemory};
@@ -54,6 +56,7 @@ pub enum Known {
 pub struct Feed {
     held: Buffer,
     known: Known,
+    wanted: usize,
     fields: Vec<HeaderSpan>,
     routes: Routes,
     told: Option<(usize, usize)>,
@@ -63,13 +66,14 @@ pub struct Feed {
 impl Model for Feed {
     ghost use Rattle.std.specs.Prelude.{◌≡◌, length};
     ghost use Rattle.sheet_http.specs.Knowing.{Knows};
+    ghost use Rattle.sheet_http.specs.Waiting.{bytes_wanted};
     ghost use Rattle.sheet_http.specs.Steps.{Held, AreWithin};
 
     ghost Value = { Held };
 
     ghost view = { λ f. record { bytes = f.held; told = f.told } };
 
-    ghost invariant = { λ f. Knows f.held f.known × (length f.fields.items ≡ 2731) × AreWithin f.told (length f.held) };
+    ghost invariant = { λ f. Knows f.held f.known × (f.wanted ≡ bytes_wanted f.known) × (length f.fields.items ≡ 2731) × AreWithin f.told (length f.held) };
 }
 
 // What is known of a whole head.
@@ -110,15 +114,29 @@ fn placed(demand: Demand, start: usize) -> Demand
     Demand { name, ..demand }
 }
 
-// Whether a whole head is known whose body isn't there yet.
-#[inline]
-fn is_waiting(known: &Known, held: &[u8]) -> bool
-    requires { Knows held.now known.now }
-    ensures { IsTrue result → HasNoStep held.now × (length held.now < room) }
+// How many bytes there are to be before a step can come.
+fn bytes_wanted(known: &Known) -> usize
+    requires { IsShort known.now }
+    ensures { result ≡ bytes_wanted known.now }
 {
     match known {
-        Known::Asked(demand, from) if held.len() - from < demand.length => true,
-        _ => false,
+        Known::Asked(demand, from) => from + demand.length,
+        Known::Open(_) | Known::Refused(_, _) => 0,
+    }
+}
+
+// The end of the bytes, where one byte came since no head was known, and it ends no line.
+#[inline]
+fn line_goes_on(known: &Known, held: &[u8]) -> Option<usize>
+    requires { Knows held.now known.now }
+    ensures { IfSome result (λ n. IsOpen held.now n × HasNoStep held.now × (length held.now < room)) }
+{
+    match known {
+        Known::Open(place)
+            if held.len() - place == 1 && held.len() < LONGEST_HEAD && held[*place] != b'\n' => {
+            Some(held.len())
+        }
+        _ => None,
     }
 }
 
@@ -216,6 +234,7 @@ impl Feed {
         Ok(Feed {
             held,
             known: Known::Open(0),
+            wanted: 0,
             fields,
             routes,
             told: None,
@@ -241,7 +260,23 @@ impl Feed {
         ensures none { OnErr result (self.new.told ≡ None) }
     {
         self.told = None;
-        if is_waiting(&self.known, self.held.bytes()) {
+        if self.held.len() < self.wanted {
+            return Ok(Step::More);
+        }
+        self.look_on()
+    }
+
+    // The same, where a step can come.
+    #[inline(never)]
+    fn look_on(&mut self) -> Result<Step, NoMemory>
+        requires { self.old.told ≡ None }
+        ensures step { IfOk result (λ step. Gives self.old.bytes self.new.told step) }
+        ensures bytes { self.new.bytes ≡ self.old.bytes }
+        ensures none { OnErr result (self.new.told ≡ None) }
+    {
+        if let Some(end) = line_goes_on(&self.known, self.held.bytes()) {
+            self.known = Known::Open(end);
+            self.wanted = 0;
             return Ok(Step::More);
         }
         self.known = look(
@@ -250,6 +285,7 @@ impl Feed {
             self.held.bytes(),
             &mut self.fields,
         );
+        self.wanted = bytes_wanted(&self.known);
         let step = step_of(self.alloc, &self.known, self.held.bytes())?;
         self.told = places_of(&step);
         Ok(step)
@@ -274,6 +310,7 @@ impl Feed {
         };
         self.held.pass(until);
         self.known = Known::Open(0);
+        self.wanted = 0;
         self.told = None;
     }
 }

@@ -11,5 +11,6 @@ invariant_of-self c =
     let more : length old ≤ length c.push.new.self = omega (arith, ap length c.push.ensures.bytes, length-append old front) in (
       subst (λ b. Knows b c.self.inside.known) (sym c.push.ensures.bytes) (knows-append old front c.self.inside.known inv.0),
       inv.1,
-      within_more c.self.inside.told (length old) (length c.push.new.self) more inv.2,
+      inv.2,
+      within_more c.self.inside.told (length old) (length c.push.new.self) more inv.3,
     )
