@@ -60,7 +60,10 @@ fn steps(alloc: Global, bytes: &[u8], size: usize) -> Result<usize, NoMemory> {
         let taken = feed.feed(piece).min(rest.len());
         let (_, behind) = rest.split_at(taken);
         rest = behind;
-        count = count.saturating_add(take_steps(&mut feed)?);
+        if let Step::Request { .. } = feed.next()? {
+            feed.done();
+            count = count.saturating_add(take_steps(&mut feed)?);
+        }
         if rest.is_empty() {
             break;
         }
@@ -68,9 +71,10 @@ fn steps(alloc: Global, bytes: &[u8], size: usize) -> Result<usize, NoMemory> {
     Ok(count)
 }
 
-// How many requests the bytes that are held begin with.
+// How many requests there are, where one was just taken: that one, and those that the bytes behind it begin with.
+#[inline(never)]
 fn take_steps(feed: &mut Feed) -> Result<usize, NoMemory> {
-    let mut count = 0usize;
+    let mut count = 1usize;
     for _ in 0..100_000 {
         match feed.next()? {
             Step::Request { .. } => {

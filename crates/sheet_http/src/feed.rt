@@ -223,6 +223,16 @@ fn places_of(step: &Step) -> Option<(usize, usize)>
     }
 }
 
+// No places are told. Where none were, nothing is written.
+#[inline]
+fn forget(told: &mut Option<(usize, usize)>)
+    ensures { told.new ≡ None }
+{
+    if told.is_some() {
+        *told = None;
+    }
+}
+
 impl Feed {
     /// No byte yet. All the memory that a feed needs but for the names in routes is taken here.
     pub fn new(alloc: Global) -> Result<Feed, NoMemory>
@@ -259,11 +269,14 @@ impl Feed {
         ensures bytes { self.new.bytes ≡ self.old.bytes }
         ensures none { OnErr result (self.new.told ≡ None) }
     {
-        self.told = None;
+        forget(&mut self.told);
         if self.held.len() < self.wanted {
             return Ok(Step::More);
         }
-        self.look_on()
+        match self.look_on() {
+            Ok(step) => Ok(step),
+            Err(error) => Err(error),
+        }
     }
 
     // The same, where a step can come.
