@@ -4,9 +4,10 @@ ghost use Rattle.sheet_state.specs.Kept.{IsKept};
 
 use sheet_columns::Columns;
 use sheet_state::{State, StateRefusal};
+use sheet_values::NoMemory;
 use std::alloc::Global;
 use std::test::Fail;
-use test_state::{columns, delete, make, refer};
+use test_state::{columns, delete, delete_all, make, refer};
 
 // A shelf with that many boxes.
 fn fill(columns: &Columns, state: &mut State, boxes: u32) -> Result<(), StateRefusal>
@@ -67,5 +68,37 @@ pub fn deleted(alloc: Global, objects: u32, times: u32, boxes: u32) -> Result<u6
     refer(alloc, &columns, &mut state, leaf + 1, 4, leaf)?;
     state.forget();
     let_go(&columns, &mut state, leaf, times)?;
+    Ok(state.objects())
+}
+
+// Lets all boxes of the first shelf go at once and come back, that many times.
+fn let_all_go(columns: &Columns, state: &mut State, times: u32) -> Result<(), NoMemory>
+    requires { IsKept columns.now state.old }
+    ensures { IsKept columns.now state.new }
+{
+    for _ in 0..times {
+        delete_all_and_undo(columns, state)?;
+    }
+    Ok(())
+}
+
+// Lets all boxes of the first shelf go at once and come back.
+fn delete_all_and_undo(columns: &Columns, state: &mut State) -> Result<(), NoMemory>
+    requires { IsKept columns.now state.old }
+    ensures { IsKept columns.now state.new }
+{
+    let boxes = state.children(1, 3).copy()?;
+    let mark = state.mark();
+    delete_all(columns, state, &boxes)?;
+    state.undo_to(mark);
+    Ok(())
+}
+
+/// Makes a shelf of that many boxes, which all go at once and come back, that many times; how many objects there are.
+pub fn all_deleted(alloc: Global, boxes: u32, times: u32) -> Result<u64, Fail> {
+    let columns = columns(alloc)?;
+    let mut state = State::new(alloc, &columns)?;
+    build(&columns, &mut state, 1, boxes)?;
+    let_all_go(&columns, &mut state, times)?;
     Ok(state.objects())
 }

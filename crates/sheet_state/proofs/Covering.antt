@@ -1,9 +1,8 @@
 -- The places that were found cover all rows that change.
 use Rattle.std.proofs.Common.{◌≡◌, refl, sym, ap, ◌∙◌, subst, ℕ, ◌<◌, Bool, true, false, cond, List, [], ◌∷◌, length, get_or, ◌⊎◌, inl, inr}
-use Rattle.std.specs.Prelude.{not, position, ◌==◌, ◌||◌, if◌then◌else◌, IsSome}
+use Rattle.std.specs.Prelude.{not, position, ◌||◌, if◌then◌else◌}
 use Rattle.std.specs.Ordering.{is_eq}
 use Rattle.std.specs.Cmp.{tied_itself}
-use Rattle.std.proofs.lemmas.Bool.{eqb-true}
 use Rattle.std.proofs.lemmas.List.{get_or_default}
 use Rattle.sheet_values.specs.Sorted.{IsRising}
 use Rattle.sheet_values.specs.Order.{value_cmp}
@@ -15,19 +14,16 @@ use Rattle.sheet_columns.specs.declared.tree.Node.{Node}
 use Rattle.sheet_state_rows.specs.Rows.{Table, set_row}
 use Rattle.sheet_state_rows.specs.declared.row.ObjectRow.{ObjectRow}
 use Rattle.sheet_state_rows.specs.declared.row.SetRow.{SetRow}
-use Rattle.sheet_meaning.specs.Changes.{has_number, has_parent_in}
 use Rattle.sheet_meaning.specs.Workbook.{object_at}
 use Rattle.sheet_meaning.proofs.Members.{both_true}
-use Rattle.sheet_state_references.specs.Below.{has, IsFamily}
+use Rattle.sheet_state_references.specs.Below.{has}
 use Rattle.sheet_state_references.specs.declared.references.Reference.{Reference}
 use Rattle.sheet_state.specs.Deaths.{is_doomed, buried, swept}
 use Rattle.sheet_state.specs.Kept.{IsMoment}
-use Rattle.sheet_state.specs.Places.{Fits, Adds, OfAny, IsRowOf, IsOwnRow, RefersTo, IsHomeOf, Covers, IsListedRow, IsListed}
+use Rattle.sheet_state.specs.Places.{Fits, Adds, OfAny, IsRowOf, IsOwnRow, RefersTo, IsHomeOf, Covers, IsListedRow, IsListed, AreObjects}
 use Rattle.sheet_state.specs.Rows.{is_set, object_cmp, objects_in, moment, IsSound}
-use Rattle.sheet_state.proofs.Family.{knows_number}
-use Rattle.sheet_state.proofs.Relatives.{ns, closed_at, family_known, are_objects}
 use Rattle.sheet_state.proofs.Underneath.{all_at, object_placed, set_placed, row_child, in_live}
-use Rattle.sheet_state_references.proofs.Searched.{right, one_of}
+use Rattle.sheet_state_references.proofs.Searched.{right}
 
 fits_none : (n : ℕ) → Fits n []
 fits_none n = λ k h. cc
@@ -67,7 +63,7 @@ pub record Touches (d : List Value) (rows : List SetRow) (k n : ℕ) : Type 0 wh
   pub doomed : contains (Object n) d ≡ true
   pub how : ((set_row rows k).object ≡ n) ⊎ (contains (Object n) (set_row rows k).set ≡ true)
 
-pub covers_sets : (d : List Value) (rows : List SetRow) (places : List ℕ) → ((v : Value) → contains v d ≡ true → (n : ℕ) × (v ≡ Object n)) →
+pub covers_sets : (d : List Value) (rows : List SetRow) (places : List ℕ) → AreObjects d →
     Fits (length rows) places → ((k n : ℕ) → k < length rows → Touches d rows k n → has k places ≡ true) → Covers (swept d) rows places
 covers_sets d rows places objects fits touched = record {
   fits = fits;
@@ -105,15 +101,11 @@ covers_sets d rows places objects fits touched = record {
                 let w = objects v h in
                 ap (λ u. contains u d) w.1 ∙ untouched k w.0 lt out live (inr (ap (λ u. contains u (set_row rows k).set) (sym w.1) ∙ e))
 
-module _ (nodes : List Node) (t : Table) (sound : IsSound t) (m : IsMoment nodes (moment t)) (o : ℕ) (positive : 0 < o)
-    (live : IsSome (object_at (objects_in t.objects) o)) (d : List Value) (f : IsFamily t.extents o d) where
-  only_objects : (v : Value) → contains v d ≡ true → (n : ℕ) × (v ≡ Object n)
-  only_objects v e = let w = are_objects nodes t sound m o positive live d f v e in (w.0, w.1)
-
+module _ (nodes : List Node) (t : Table) (sound : IsSound t) (m : IsMoment nodes (moment t)) (d : List Value) (only : AreObjects d) where
   -- the own cells of these objects, and those that refer to them
   pub covers_cells : (references : List Reference) (own places : List ℕ) → IsListed references t → Adds (OfAny d (IsOwnRow t.cells)) (length t.cells) [] own →
       Adds (OfAny d (RefersTo t.cells references)) (length t.cells) own places → Covers (swept d) t.cells places
-  covers_cells references own places listed a b = covers_sets d t.cells places only_objects (b.fits (a.fits (fits_none (length t.cells)))) touched
+  covers_cells references own places listed a b = covers_sets d t.cells places only (b.fits (a.fits (fits_none (length t.cells)))) touched
     where
       touched : (k n : ℕ) → k < length t.cells → Touches d t.cells k n → has k places ≡ true
       touched k n lt w = elim w.how [
@@ -127,14 +119,11 @@ module _ (nodes : List Node) (t : Table) (sound : IsSound t) (m : IsMoment nodes
             )
       ]
 
-  -- the own extents of these objects, and the one that the first stands in
+  -- the own extents of these objects, and those that they stand in
   pub covers_extents : (own places : List ℕ) → Adds (OfAny d (IsOwnRow t.extents)) (length t.extents) [] own →
-      Adds (IsHomeOf t.objects t.extents o) (length t.extents) own places → Covers (swept d) t.extents places
-  covers_extents own places a b = covers_sets d t.extents places only_objects (b.fits (a.fits (fits_none (length t.extents)))) touched
+      Adds (OfAny d (IsHomeOf t.objects t.extents)) (length t.extents) own places → Covers (swept d) t.extents places
+  covers_extents own places a b = covers_sets d t.extents places only (b.fits (a.fits (fits_none (length t.extents)))) touched
     where
-      known : (n : ℕ) → contains (Object n) d ≡ has_number (ns nodes t sound m o positive live d f) n
-      known n = knows_number d (ns nodes t sound m o positive live d f) (family_known nodes t sound m o positive live d f) n
-
       touched : (k n : ℕ) → k < length t.extents → Touches d t.extents k n → has k places ≡ true
       touched k n lt w = elim w.how [
         | inl same ↦ b.kept k (a.found k (n, w.doomed, (lt, same)))
@@ -142,22 +131,15 @@ module _ (nodes : List Node) (t : Table) (sound : IsSound t) (m : IsMoment nodes
             let r = set_row t.extents k in
             let c = row_child t sound k n lt w.live holds in
             let x = c.0.object in
-            elim (one_of (x.number == o) (has_parent_in (ns nodes t sound m o positive live d f) x.parent)
-            (sym (closed_at nodes t sound m o positive live d f x c.0.is_there) ∙ ap (has_number (ns nodes t sound m o positive live d f)) c.0.number
-            ∙ sym (known n) ∙ w.doomed)) [
-              | inl first ↦
-                  let is : x.number ≡ o = eqb-true x.number o first in
-                  let at = in_live (objects_in t.objects) x m.well_formed.rising c.0.is_there in
-                  b.found k (
-                    r.object,
-                    x,
-                    (ap (object_at (objects_in t.objects)) (sym is) ∙ at),
-                    c.0.parent,
-                    (ap (λ q. position (is_set r.object q) t.extents) c.1 ∙ set_placed t.extents k sound.extents lt w.live),
-                  )
-              | inr under ↦
-                  let up : has_number (ns nodes t sound m o positive live d f) r.object ≡ true =
-                  ap (has_parent_in (ns nodes t sound m o positive live d f)) (sym c.0.parent) ∙ under in
-                  b.kept k (a.found k (r.object, (known r.object ∙ up), (lt, refl)))
-            ]
+            b.found k (
+              n,
+              w.doomed,
+              (
+                r.object,
+                x,
+                ap (object_at (objects_in t.objects)) (sym c.0.number) ∙ in_live (objects_in t.objects) x m.well_formed.rising c.0.is_there,
+                c.0.parent,
+                ap (λ q. position (is_set r.object q) t.extents) c.1 ∙ set_placed t.extents k sound.extents lt w.live,
+              ),
+            )
       ]

@@ -18,10 +18,10 @@ use Rattle.sheet_meaning.specs.declared.workbook.StoredCell.{StoredCell}
 use Rattle.sheet_state.specs.Deaths.{is_doomed, buried, swept, lost}
 use Rattle.sheet_state.specs.Rows.{live_object, live_cell, object_of, objects_in, cells_in}
 use Rattle.sheet_state.proofs.Family.{Knows, knows_number}
-use Rattle.sheet_state.proofs.Without.{stays, cell_stays, cleaned, IsClosed}
+use Rattle.sheet_state.proofs.Without.{stays, cell_stays, cleaned, IsDown}
 
 -- filters by tests that agree
-filter_same : {A : Type 0} (p q : A → Bool) → ((x : A) → p x ≡ q x) → (xs : List A) → filter p xs ≡ filter q xs
+pub filter_same : {A : Type 0} (p q : A → Bool) → ((x : A) → p x ≡ q x) → (xs : List A) → filter p xs ≡ filter q xs
 filter_same p q e [] = refl
 filter_same p q e (x ∷ xs) = ap (λ b. cond b (x ∷ filter p xs) (filter p xs)) (e x) ∙ ap (λ l. cond (q x) (x ∷ l) l) (filter_same p q e xs)
 
@@ -130,30 +130,26 @@ set_left ns o c (x ∷ xs) =
     miss rest e false = ap (λ b. if b then filter (is_other ns) x.set else set_in (map (cleaned ns) (filter (cell_stays ns) xs)) o c) e ∙ rest
 
 -- what the children of an object that is gone come to
-pub orphans : (o : ℕ) (ns : List ℕ) (p c : ℕ) → has_number ns p ≡ true → (xs : List LiveObject) → AllByRecursion (IsClosed o ns) xs →
+pub orphans : (ns : List ℕ) (p c : ℕ) → has_number ns p ≡ true → (xs : List LiveObject) → AllByRecursion (IsDown ns) xs →
     filter (is_other ns) (children_in xs p c) ≡ []
-orphans o ns p c dead [] h = refl
-orphans o ns p c dead (x ∷ xs) h =
+orphans ns p c dead [] h = refl
+orphans ns p c dead (x ∷ xs) h =
     elim (is_child p c x) as (λ b. is_child p c x ≡ b →
     filter (is_other ns) (map (λ (y : LiveObject). Object y.number) (cond b (x ∷ filter (is_child p c) xs) (filter (is_child p c) xs))) ≡ []) [
       | true ↦ λ e.
           ap (λ t. cond (not t) (Object x.number ∷ filter (is_other ns) (children_in xs p c)) (filter (is_other ns) (children_in xs p c)))
-          (h.0 ∙ inside x.parent (both (x.column == c) (is_number p x.parent) e))
-          ∙ orphans o ns p c dead xs h.1
-      | false ↦ λ e. orphans o ns p c dead xs h.1
+          (h.0 (inside x.parent (both (x.column == c) (is_number p x.parent) e)))
+          ∙ orphans ns p c dead xs h.1
+      | false ↦ λ e. orphans ns p c dead xs h.1
     ] refl
   where
     both : (a b : Bool) → (a && b) ≡ true → b ≡ true
     both true b e = e
     both false b e = cc
 
-    or_true : (b : Bool) → (b || true) ≡ true
-    or_true true = refl
-    or_true false = refl
-
-    inside : (q : Option ℕ) → is_number p q ≡ true → (x.number == o || has_parent_in ns q) ≡ true
+    inside : (q : Option ℕ) → is_number p q ≡ true → has_parent_in ns q ≡ true
     inside None e = cc
-    inside (Some m) e = ap (λ j. x.number == o || has_number ns j) (sym (eqb-true p m e)) ∙ ap (λ b. x.number == o || b) dead ∙ or_true (x.number == o)
+    inside (Some m) e = ap (has_number ns) (sym (eqb-true p m e)) ∙ dead
 
 -- sums of what goes and what stays
 module _ (d : List Value) (ns : List ℕ) (k : Knows d ns) where

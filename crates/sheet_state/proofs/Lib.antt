@@ -24,3 +24,7 @@ pub mod Covering
 pub mod Listed
 pub mod Compacting
 pub mod Schemas
+pub mod Removed
+pub mod Families
+pub mod Living
+pub mod Itemized

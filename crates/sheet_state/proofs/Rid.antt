@@ -3,6 +3,7 @@ use Rattle.std.proofs.Common.{◌≡◌, refl, sym, ap, ◌∙◌, subst, ℕ, �
 use Rattle.std.specs.Prelude.{not, if◌then◌else◌, map, filter, sum_by}
 use Rattle.std.specs.declared.cmp.Ordering.{Ordering}
 use Rattle.std.specs.Ordering.{nat_cmp, ordering_then}
+use Rattle.std.specs.List.{AllByRecursion}
 use Rattle.std.proofs.lemmas.List.Sums.{sum_by-cons}
 use Rattle.sheet_values.specs.Sorted.{IsBelow, IsRising}
 use Rattle.sheet_values.specs.Sets.{contains, minus}
@@ -12,7 +13,7 @@ use Rattle.sheet_columns.specs.declared.tree.Node.{Node}
 use Rattle.sheet_state_rows.specs.Rows.{Table}
 use Rattle.sheet_state_rows.specs.declared.row.ObjectRow.{ObjectRow}
 use Rattle.sheet_state_rows.specs.declared.row.SetRow.{SetRow}
-use Rattle.sheet_meaning.specs.Changes.{has_number, is_other, family, without_object}
+use Rattle.sheet_meaning.specs.Changes.{has_number, is_other, without}
 use Rattle.sheet_meaning.specs.Workbook.{children_in, set_in}
 use Rattle.sheet_meaning.specs.WellFormed.{cell_count, IsWellFormed}
 use Rattle.sheet_meaning.specs.declared.workbook.LiveObject.{LiveObject}
@@ -24,7 +25,7 @@ use Rattle.sheet_state.specs.Kept.{book, object_columns, extents_of, IsMoment}
 use Rattle.sheet_state.specs.Rows.{objects_in, cells_in, state_of, moment, row_cmp, object_cmp, IsSound}
 use Rattle.sheet_state.proofs.Existing.{key}
 use Rattle.sheet_state.proofs.Family.{Knows}
-use Rattle.sheet_state.proofs.Without.{stays, children_left, pairs_left, weight_of, cells_weighed, left_well_formed, family_closed, keys_left}
+use Rattle.sheet_state.proofs.Without.{stays, children_left, pairs_left, weight_of, cells_weighed, left_well_formed, IsDown, keys_left}
 use Rattle.sheet_state.proofs.Gone.{objects_left, cells_left, set_left, orphans, weighed_apart, values_apart}
 use Rattle.sheet_state.proofs.WithSet.{all_mono}
 
@@ -67,15 +68,20 @@ ones : (xs : List LiveObject) → sum_by (λ (x : LiveObject). 1) xs ≡ length 
 ones [] = refl
 ones (x ∷ xs) = let a = sum_by-cons (λ (y : LiveObject). 1) x xs in let b = ones xs in omega arith
 
-module _ (nodes : List Node) (t : Table) (sound : IsSound t) (m : IsMoment nodes (moment t)) (o : ℕ) (positive : 0 < o) (d : List Value)
-    (k : Knows d (family (objects_in t.objects) o)) where
-  abbrev ns : List ℕ
-  ns = family (objects_in t.objects) o
+-- these objects may go: with each of them goes all that stands directly under it, and the root stays
+pub record MayGo (t : Table) (d : List Value) (ns : List ℕ) : Type 0 where
+  pub known : Knows d ns
+  pub down : AllByRecursion (IsDown ns) (objects_in t.objects)
+  pub root : has_number ns 0 ≡ false
+
+module _ (nodes : List Node) (t : Table) (sound : IsSound t) (m : IsMoment nodes (moment t)) (d : List Value) (ns : List ℕ) (g : MayGo t d ns) where
+  abbrev k : Knows d ns
+  k = g.known
 
   abbrev after : Table
   after = rid_of nodes d t
 
-  pub state_rid : state_of after ≡ without_object (state_of t) o
+  pub state_rid : state_of after ≡ without (state_of t) ns
   state_rid =
       ap (λ (xs : List LiveObject). record { objects = xs; cells = cells_in after.cells; next = t.counters.next }) (objects_left d ns k t.objects)
       ∙ ap (λ (xs : List StoredCell). record { objects = filter (stays ns) (objects_in t.objects); cells = xs; next = t.counters.next })
@@ -92,7 +98,7 @@ module _ (nodes : List Node) (t : Table) (sound : IsSound t) (m : IsMoment nodes
     where
       by_parent : (h : Bool) → has_number ns p ≡ h →
           (if h then [] else filter (is_other ns) (children_in (objects_in t.objects) p c)) ≡ filter (is_other ns) (children_in (objects_in t.objects) p c)
-      by_parent true e = sym (orphans o ns p c e (objects_in t.objects) (family_closed nodes (state_of t) m.well_formed o positive))
+      by_parent true e = sym (orphans ns p c e (objects_in t.objects) g.down)
       by_parent false e = refl
 
   pub sound_rid : IsSound after
@@ -124,14 +130,14 @@ module _ (nodes : List Node) (t : Table) (sound : IsSound t) (m : IsMoment nodes
 
   pub moment_rid : IsMoment nodes (moment after)
   moment_rid =
-      let s' = without_object (state_of t) o in
+      let s' = without (state_of t) ns in
       let weights = weighed_apart d ns k (weight_of nodes) t.objects in
       let before = cells_weighed nodes (objects_in t.objects) (cells_in t.cells) t.counters.next in
       let then_left = cells_weighed nodes s'.objects s'.cells s'.next in
       let counted = m.cells in
       let is : t.counters.cells - sum_by (lost_cells nodes d) t.objects ≡ cell_count (book nodes s') = omega (arith, weights, before, then_left, counted) in
       record {
-        well_formed = subst (λ u. IsWellFormed (book nodes u)) (sym state_rid) (left_well_formed nodes (state_of t) m.well_formed o positive);
+        well_formed = subst (λ u. IsWellFormed (book nodes u)) (sym state_rid) (left_well_formed nodes (state_of t) m.well_formed ns g.down g.root);
         extents =
             ap (map key) (cells_left d ns k t.extents)
             ∙ keys_left ns (cells_in t.extents)

@@ -15,14 +15,14 @@ use Rattle.sheet_values.specs.Sets.{contains}
 use Rattle.sheet_values.specs.declared.value.Value.{Value}
 use Rattle.sheet_values.specs.declared.value.Value.TheVariants.{Object}
 use Rattle.sheet_columns.specs.declared.item.Item.{Item}
-use Rattle.sheet_columns.specs.declared.item.Item.TheVariants.{Live, Extent, Stored}
+use Rattle.sheet_columns.specs.declared.item.Item.TheVariants.{Extent, Stored}
 use Rattle.sheet_columns.specs.declared.tree.Node.{Node}
 use Rattle.sheet_state_rows.specs.declared.row.ObjectRow.{ObjectRow}
 use Rattle.sheet_state_rows.specs.declared.row.SetRow.{SetRow}
 use Rattle.sheet_meaning.specs.WellFormed.{state_columns}
 use Rattle.sheet_meaning.proofs.Members.{both_true}
 use Rattle.sheet_state.specs.Births.{with_items, formula_columns}
-use Rattle.sheet_state.specs.Deaths.{is_doomed, buried, buried_items, up_items, swept, swept_items, lost, lost_objects, lost_cells}
+use Rattle.sheet_state.specs.Deaths.{is_doomed, buried, swept, swept_items, lost, lost_objects, lost_cells}
 use Rattle.sheet_state.specs.Kept.{schema_of}
 use Rattle.sheet_state.specs.Places.{Fits}
 use Rattle.sheet_state_references.proofs.Searched.{right, nat_less}
@@ -220,11 +220,10 @@ alive d r e = at (is_doomed d r) refl
         cc
 
 pub quiet_object : (nodes : List Node) (d : List Value) (s : Totals) (r : ObjectRow) → buried d r ≡ r →
-    with_row (buried_items d) (lost_objects d) (lost_cells nodes d) s r ≡ s
+    with_row (λ q. []) (lost_objects d) (lost_cells nodes d) s r ≡ s
 quiet_object nodes d s r e =
     let a = alive d r e in
-    told_nothing (buried_items d) (lost_objects d) (lost_cells nodes d) s r
-    (ap (λ b. if b then Live r.number ∷ up_items r.number r.parent else []) a)
+    told_nothing (λ q. []) (lost_objects d) (lost_cells nodes d) s r refl
     (ap (λ b. if b then 1 else 0) a)
     (ap (λ b. if b then length (state_columns (schema_of nodes) r.column) + length (formula_columns nodes r.column) else 0) a)
 

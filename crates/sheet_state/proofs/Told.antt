@@ -18,7 +18,7 @@ use Rattle.sheet_columns.specs.declared.tree.Node.{Node}
 use Rattle.sheet_state_rows.specs.Rows.{Table}
 use Rattle.sheet_state_rows.specs.declared.row.ObjectRow.{ObjectRow}
 use Rattle.sheet_state_rows.specs.declared.row.SetRow.{SetRow}
-use Rattle.sheet_meaning.specs.Changes.{has_number, family, without_object}
+use Rattle.sheet_meaning.specs.Changes.{has_number, without}
 use Rattle.sheet_meaning.specs.Formula.{sets_equal}
 use Rattle.sheet_meaning.specs.Items.{numbers_equal}
 use Rattle.sheet_meaning.specs.Workbook.{object_at, column_in, parent_in, children_in, set_in}
@@ -26,14 +26,15 @@ use Rattle.sheet_meaning.specs.declared.workbook.LiveObject.{LiveObject}
 use Rattle.sheet_meaning.specs.declared.workbook.StoredCell.{StoredCell}
 use Rattle.sheet_meaning.specs.declared.workbook.State.{State}
 use Rattle.sheet_state.specs.Births.{with_items}
-use Rattle.sheet_state.specs.Deaths.{is_doomed, buried_items, up_items, swept, swept_items, lost, rid_items}
+use Rattle.sheet_state.specs.Deaths.{live_items, up_items, swept, swept_items, lost, rid_items}
 use Rattle.sheet_state.specs.Kept.{IsMoment, AreChanged}
 use Rattle.sheet_state.specs.Rows.{live_object, live_cell, object_cmp, object_of, objects_in, cells_in, state_of, moment, row_cmp, is_set, IsSound}
 use Rattle.sheet_state.proofs.Family.{Knows, knows_number}
+use Rattle.sheet_state.proofs.Itemized.{live_told, up_told, no_lives, no_ups}
 use Rattle.sheet_state.proofs.Lookups.{set_first, set_skip}
 use Rattle.sheet_state.proofs.Newborn.{not_item, has_items}
 use Rattle.sheet_state.proofs.SetRows.{at, apart, passes, key_is}
-use Rattle.sheet_state.proofs.Rid.{state_rid, children_rid}
+use Rattle.sheet_state.proofs.Rid.{MayGo, state_rid, children_rid}
 use Rattle.sheet_state.proofs.Without.{found_left, differs, filter_short}
 use Rattle.sheet_state.proofs.WithSet.{item_is, item_itself, numbers_same, sets_are, sets_same}
 use Rattle.sheet_state_references.proofs.Searched.{nat_less}
@@ -57,142 +58,20 @@ or_false : (b : Bool) → (b || false) ≡ b
 or_false true = refl
 or_false false = refl
 
--- objects that go
-module _ (d : List Value) (ns : List ℕ) (k : Knows d ns) (m : ℕ) where
-  abbrev live_test : ObjectRow → Bool
-  live_test r = r.live && has_number ns r.number
+-- an object that goes, and what it tells of itself
+column_told : (h : Bool) (q : Option LiveObject) → (h && is_some (column_in q)) ≡ not (numbers_equal (column_in q) (column_in (if h then None else q)))
+column_told true None = refl
+column_told true (Some x) = refl
+column_told false q = sym (ap not (numbers_same (column_in q)))
 
-  is_test : (r : ObjectRow) → is_doomed d r ≡ live_test r
-  is_test r = ap (λ b. r.live && b) (knows_number d ns k r.number)
-
-  number_item : (n : ℕ) → is_eq (item_cmp (Live m) (Live n)) ≡ (n == m)
-  number_item n =
-      elim (n == m) as (λ b. (n == m) ≡ b → is_eq (item_cmp (Live m) (Live n)) ≡ b) [
-        | true ↦ λ e. subst (λ j. is_eq (item_cmp (Live m) (Live j)) ≡ true) (sym (eqb-true n m e)) (item_itself (Live m))
-        | false ↦ λ e. not_item (Live m) (Live n) (λ h. let same : m ≡ n = cc in let t : (n == m) ≡ true = eq-eqb n m (sym same) in cc)
-      ] refl
-
-  up_item : (n : ℕ) → is_eq (item_cmp (Up m) (Up n)) ≡ (n == m)
-  up_item n =
-      elim (n == m) as (λ b. (n == m) ≡ b → is_eq (item_cmp (Up m) (Up n)) ≡ b) [
-        | true ↦ λ e. subst (λ j. is_eq (item_cmp (Up m) (Up j)) ≡ true) (sym (eqb-true n m e)) (item_itself (Up m))
-        | false ↦ λ e. not_item (Up m) (Up n) (λ h. let same : m ≡ n = cc in let t : (n == m) ≡ true = eq-eqb n m (sym same) in cc)
-      ] refl
-
-  no_up : (n : ℕ) (p : Option ℕ) → among (Live m) (up_items n p) ≡ false
-  no_up n None = refl
-  no_up n (Some q) = ap (λ b. b || false) (not_item (Live m) (Up n) (λ h. cc))
-
-  live_row : (r : ObjectRow) → among (Live m) (buried_items d r) ≡ (live_test r && r.number == m)
-  live_row r = ap (λ b. among (Live m) (if b then Live r.number ∷ up_items r.number r.parent else [])) (is_test r) ∙ of_test (live_test r)
-    where
-      of_test : (b : Bool) → among (Live m) (if b then Live r.number ∷ up_items r.number r.parent else []) ≡ (b && r.number == m)
-      of_test true = ap (λ b. is_eq (item_cmp (Live m) (Live r.number)) || b) (no_up r.number r.parent) ∙ or_false (is_eq (item_cmp (Live m) (Live r.number)))
-          ∙ number_item r.number
-      of_test false = refl
-
-  up_row : (r : ObjectRow) → among (Up m) (buried_items d r) ≡ (live_test r && (r.number == m && is_some r.parent))
-  up_row r = ap (λ b. among (Up m) (if b then Live r.number ∷ up_items r.number r.parent else [])) (is_test r) ∙ of_test (live_test r)
-    where
-      of_parent : (p : Option ℕ) → among (Up m) (up_items r.number p) ≡ (r.number == m && is_some p)
-      of_parent None = sym (and_false (r.number == m))
-        where
-          and_false : (b : Bool) → (b && false) ≡ false
-          and_false true = refl
-          and_false false = refl
-      of_parent (Some q) = or_false (is_eq (item_cmp (Up m) (Up r.number))) ∙ up_item r.number ∙ sym (and_true (r.number == m))
-        where
-          and_true : (b : Bool) → (b && true) ≡ b
-          and_true true = refl
-          and_true false = refl
-
-      of_test : (b : Bool) → among (Up m) (if b then Live r.number ∷ up_items r.number r.parent else []) ≡ (b && (r.number == m && is_some r.parent))
-      of_test true = ap (λ b. b || among (Up m) (up_items r.number r.parent)) (not_item (Up m) (Live r.number) (λ h. cc)) ∙ of_parent r.parent
-      of_test false = refl
-
-  and_false : (b : Bool) → (b && false) ≡ false
-  and_false true = refl
-  and_false false = refl
-
-  abbrev of_found : (LiveObject → Bool) → Option LiveObject → Bool
-  of_found g None = false
-  of_found g (Some x) = g x
-
-  none_later : (r : ObjectRow) (rows : List ObjectRow) → r.number ≡ m → IsBelow object_cmp r rows → object_at (objects_in rows) m ≡ None
-  none_later r [] e b = refl
-  none_later r (q ∷ rows) e b =
-      let less : r.number < q.number = nat_less r.number q.number b.0 in
-      let miss : (q.number == m) ≡ false = differs q.number m (λ h. omega arith) in
-      elim q.live as (λ l. object_at (cons_option (if l then Some (object_of q) else None) (objects_in rows)) m ≡ None) [
-        | true ↦ ap (λ t. if t then Some (object_of q) else object_at (objects_in rows) m) miss ∙ none_later r rows e b.1
-        | false ↦ none_later r rows e b.1
-      ]
-
-  -- one row more
-  joined : (g : LiveObject → Bool) (r : ObjectRow) (rows : List ObjectRow) → IsBelow object_cmp r rows → (l e h : Bool) → r.live ≡ l → (r.number == m) ≡ e →
-      has_number ns m ≡ h →
-      ((live_test r && (r.number == m && g (object_of r))) || (has_number ns m && of_found g (object_at (objects_in rows) m))) ≡ (has_number ns m && of_found g
-      (object_at (cons_option (live_object r) (objects_in rows)) m))
-  joined g r rows below true true h live same is =
-      let number = eqb-true r.number m same in
-      let test : live_test r ≡ h = ap (λ b. b && has_number ns r.number) live ∙ ap (has_number ns) number ∙ is in
-      ap (λ b. (b && (r.number == m && g (object_of r))) || (has_number ns m && of_found g (object_at (objects_in rows) m))) test
-      ∙ ap (λ b. (h && (b && g (object_of r))) || (has_number ns m && of_found g (object_at (objects_in rows) m))) same
-      ∙ ap (λ q. (h && g (object_of r)) || (has_number ns m && of_found g q)) (none_later r rows number below)
-      ∙ ap (λ b. (h && g (object_of r)) || b) (and_false (has_number ns m))
-      ∙ or_false (h && g (object_of r))
-      ∙ ap (λ b. b && g (object_of r)) (sym is)
-      ∙ sym (ap (λ b. has_number ns m && of_found g (object_at (cons_option (if b then Some (object_of r) else None) (objects_in rows)) m)) live
-      ∙ ap (λ b. has_number ns m && of_found g (if b then Some (object_of r) else object_at (objects_in rows) m)) same)
-  joined g r rows below true false h live same is =
-      ap (λ b. (live_test r && (b && g (object_of r))) || (has_number ns m && of_found g (object_at (objects_in rows) m))) same
-      ∙ ap (λ b. b || (has_number ns m && of_found g (object_at (objects_in rows) m))) (and_false (live_test r))
-      ∙ sym (ap (λ b. has_number ns m && of_found g (object_at (cons_option (if b then Some (object_of r) else None) (objects_in rows)) m)) live
-      ∙ ap (λ b. has_number ns m && of_found g (if b then Some (object_of r) else object_at (objects_in rows) m)) same)
-  joined g r rows below false e h live same is =
-      ap (λ b. ((b && has_number ns r.number) && (r.number == m && g (object_of r))) || (has_number ns m && of_found g (object_at (objects_in rows) m))) live
-      ∙ sym (ap (λ b. has_number ns m && of_found g (object_at (cons_option (if b then Some (object_of r) else None) (objects_in rows)) m)) live)
-
-  -- an object's item is told where the object is live and goes
-  pub told : (i : Item) (g : LiveObject → Bool) → ((r : ObjectRow) → among i (buried_items d r) ≡ (live_test r && (r.number == m && g (object_of r)))) →
-      (rows : List ObjectRow) → IsRising object_cmp rows →
-      among i (flat_map (buried_items d) rows) ≡ (has_number ns m && of_found g (object_at (objects_in rows) m))
-  told i g row [] rising = sym (and_false (has_number ns m))
-  told i g row (r ∷ rows) rising =
-      among_append i (buried_items d r) (flat_map (buried_items d) rows)
-      ∙ ap (λ b. b || among i (flat_map (buried_items d) rows)) (row r)
-      ∙ ap (λ b. (live_test r && (r.number == m && g (object_of r))) || b) (told i g row rows rising.1)
-      ∙ joined g r rows rising.0 r.live (r.number == m) (has_number ns m) refl refl refl
-
-  live_told : (rows : List ObjectRow) → IsRising object_cmp rows →
-      among (Live m) (flat_map (buried_items d) rows) ≡ not
-      (numbers_equal (column_in (object_at (objects_in rows) m)) (column_in (if has_number ns m then None else object_at (objects_in rows) m)))
-  live_told rows rising = told (Live m) (λ x. true) (λ r. live_row r ∙ ap (λ b. live_test r && b) (sym (and_true (r.number == m)))) rows rising
-      ∙ at (has_number ns m) (object_at (objects_in rows) m)
-    where
-      and_true : (b : Bool) → (b && true) ≡ b
-      and_true true = refl
-      and_true false = refl
-
-      at : (h : Bool) (q : Option LiveObject) → (h && of_found (λ x. true) q) ≡ not (numbers_equal (column_in q) (column_in (if h then None else q)))
-      at true None = refl
-      at true (Some x) = refl
-      at false q = sym (ap not (numbers_same (column_in q)))
-
-  up_told : (rows : List ObjectRow) → IsRising object_cmp rows →
-      among (Up m) (flat_map (buried_items d) rows) ≡ not
-      (numbers_equal (parent_in (object_at (objects_in rows) m)) (parent_in (if has_number ns m then None else object_at (objects_in rows) m)))
-  up_told rows rising = told (Up m) (λ x. is_some x.parent) up_row rows rising ∙ at (has_number ns m) (object_at (objects_in rows) m)
-    where
-      of_parent : (p : Option ℕ) → is_some p ≡ not (numbers_equal p None)
-      of_parent None = refl
-      of_parent (Some n) = refl
-
-      at : (h : Bool) (q : Option LiveObject) →
-          (h && of_found (λ x. is_some x.parent) q) ≡ not (numbers_equal (parent_in q) (parent_in (if h then None else q)))
-      at true None = refl
-      at true (Some x) = of_parent x.parent
-      at false q = sym (ap not (numbers_same (parent_in q)))
+parent_told : (h : Bool) (q : Option LiveObject) → (h && is_some (parent_in q)) ≡ not (numbers_equal (parent_in q) (parent_in (if h then None else q)))
+parent_told true None = refl
+parent_told true (Some x) = of_parent x.parent
+  where
+    of_parent : (p : Option ℕ) → is_some p ≡ not (numbers_equal p None)
+    of_parent None = refl
+    of_parent (Some n) = refl
+parent_told false q = sym (ap not (numbers_same (parent_in q)))
 
 -- a list that isn't longer tells by its length whether it differs
 lost_tells : (xs ys : List Value) → length ys ≤ length xs → (length xs ≡ length ys → ys ≡ xs) → nat_lt 0 (length xs - length ys) ≡ not (sets_equal xs ys)
@@ -329,74 +208,83 @@ extents_apart a b x y h = let one : a ≡ x = cc in let two : b ≡ y = cc in (o
 cells_apart : (a b x y : ℕ) → Stored a b ≡ Stored x y → (a ≡ x) × (b ≡ y)
 cells_apart a b x y h = let one : a ≡ x = cc in let two : b ≡ y = cc in (one, two)
 
-module _ (nodes : List Node) (t : Table) (sound : IsSound t) (w : IsMoment nodes (moment t)) (o : ℕ) (positive : 0 < o) (d : List Value)
-    (k : Knows d (family (objects_in t.objects) o)) where
-  abbrev ns : List ℕ
-  ns = family (objects_in t.objects) o
+module _ (nodes : List Node) (t : Table) (sound : IsSound t) (w : IsMoment nodes (moment t)) (d : List Value) (ns : List ℕ) (g : MayGo t d ns) where
+  abbrev k : Knows d ns
+  k = g.known
 
   abbrev s' : State
-  s' = without_object (state_of t) o
+  s' = without (state_of t) ns
+
+  abbrev xs : List LiveObject
+  xs = objects_in t.objects
+
+  abbrev lives : List Item
+  lives = flat_map (live_items xs) d
+
+  abbrev ups : List Item
+  ups = flat_map (up_items xs) d
+
+  abbrev told_by : Bool → Bool → Bool → Bool → Bool
+  told_by c e u l = c || (e || (u || (l || false)))
 
   has : (i : Item) →
-      holds item_cmp i
-      (rid_items d t) ≡ (among i (flat_map (swept_items Extent d) t.extents) ||
-      (among i (flat_map (swept_items Stored d) t.cells) || (among i (flat_map (buried_items d) t.objects) || false)))
+      holds item_cmp i (rid_items d t) ≡ told_by (among i (flat_map (swept_items Stored d) t.cells)) (among i (flat_map (swept_items Extent d) t.extents))
+      (among i ups) (among i lives)
   has i =
-      has_items i (with_items (with_items [] (flat_map (buried_items d) t.objects)) (flat_map (swept_items Stored d) t.cells))
-      (flat_map (swept_items Extent d) t.extents)
+      has_items i (with_items (with_items (with_items [] lives) ups) (flat_map (swept_items Extent d) t.extents)) (flat_map (swept_items Stored d) t.cells)
+      ∙ ap (λ b. among i (flat_map (swept_items Stored d) t.cells) || b)
+      (has_items i (with_items (with_items [] lives) ups) (flat_map (swept_items Extent d) t.extents)
       ∙ ap (λ b. among i (flat_map (swept_items Extent d) t.extents) || b)
-      (has_items i (with_items [] (flat_map (buried_items d) t.objects)) (flat_map (swept_items Stored d) t.cells)
-      ∙ ap (λ b. among i (flat_map (swept_items Stored d) t.cells) || b) (has_items i [] (flat_map (buried_items d) t.objects)))
+      (has_items i (with_items [] lives) ups ∙ ap (λ b. among i ups || b) (has_items i [] lives)))
 
   no_sets : (i : Item) (item : ℕ → ℕ → Item) → ((a b : ℕ) → i ≡ item a b → ⊥) → (rows : List SetRow) → among i (flat_map (swept_items item d) rows) ≡ false
   no_sets i item ne rows = none_in i (swept_items item d) (λ r. one_item i (item r.object r.column) (nat_lt 0 (lost d r)) (ne r.object r.column)) rows
 
-  no_objects : (i : Item) → ((n : ℕ) → i ≡ Live n → ⊥) → ((n : ℕ) → i ≡ Up n → ⊥) → among i (flat_map (buried_items d) t.objects) ≡ false
-  no_objects i live up = none_in i (buried_items d) (λ r. at_row r (is_doomed d r)) t.objects
-    where
-      at_parent : (n : ℕ) (p : Option ℕ) → among i (up_items n p) ≡ false
-      at_parent n None = refl
-      at_parent n (Some p) = ap (λ b. b || false) (not_item i (Up n) (up n))
-
-      at_row : (r : ObjectRow) (b : Bool) → among i (if b then Live r.number ∷ up_items r.number r.parent else []) ≡ false
-      at_row r true = ap (λ b. b || among i (up_items r.number r.parent)) (not_item i (Live r.number) (live r.number)) ∙ at_parent r.number r.parent
-      at_row r false = refl
-
-  abbrev told_by : Bool → Bool → Bool → Bool
-  told_by e c b = e || (c || (b || false))
+  -- an item that is told by one part alone
+  only_told : (c e u l : Bool) → c ≡ false → e ≡ false → u ≡ false → told_by c e u l ≡ l
+  only_told c e u l nc ne nu =
+      ap (λ b. told_by b e u l) nc ∙ ap (λ b. told_by false b u l) ne ∙ ap (λ b. told_by false false b l) nu ∙ or_false l
 
   pub rid_changed : AreChanged (state_of t) s' (rid_items d t)
   rid_changed (Live m) =
       has (Live m)
-      ∙ ap (λ b. told_by b (among (Live m) (flat_map (swept_items Stored d) t.cells)) (among (Live m) (flat_map (buried_items d) t.objects)))
-      (no_sets (Live m) Extent (λ a b h. cc) t.extents)
-      ∙ ap (λ b. told_by false b (among (Live m) (flat_map (buried_items d) t.objects))) (no_sets (Live m) Stored (λ a b h. cc) t.cells)
-      ∙ or_false (among (Live m) (flat_map (buried_items d) t.objects))
-      ∙ live_told d ns k m t.objects sound.objects
-      ∙ ap (λ q. not (numbers_equal (column_in (object_at (objects_in t.objects) m)) (column_in q))) (sym (found_left ns (objects_in t.objects) m))
+      ∙ only_told (among (Live m) (flat_map (swept_items Stored d) t.cells)) (among (Live m) (flat_map (swept_items Extent d) t.extents))
+      (among (Live m) ups) (among (Live m) lives) (no_sets (Live m) Stored (λ a b h. cc) t.cells) (no_sets (Live m) Extent (λ a b h. cc) t.extents)
+      (no_ups xs (Live m) (λ n h. cc) d)
+      ∙ live_told xs m d
+      ∙ ap (λ b. b && is_some (column_in (object_at xs m))) (knows_number d ns k m)
+      ∙ column_told (has_number ns m) (object_at xs m)
+      ∙ ap (λ q. not (numbers_equal (column_in (object_at xs m)) (column_in q))) (sym (found_left ns xs m))
   rid_changed (Up m) =
       has (Up m)
-      ∙ ap (λ b. told_by b (among (Up m) (flat_map (swept_items Stored d) t.cells)) (among (Up m) (flat_map (buried_items d) t.objects)))
-      (no_sets (Up m) Extent (λ a b h. cc) t.extents)
-      ∙ ap (λ b. told_by false b (among (Up m) (flat_map (buried_items d) t.objects))) (no_sets (Up m) Stored (λ a b h. cc) t.cells)
-      ∙ or_false (among (Up m) (flat_map (buried_items d) t.objects))
-      ∙ up_told d ns k m t.objects sound.objects
-      ∙ ap (λ q. not (numbers_equal (parent_in (object_at (objects_in t.objects) m)) (parent_in q))) (sym (found_left ns (objects_in t.objects) m))
+      ∙ ap (λ b. told_by b (among (Up m) (flat_map (swept_items Extent d) t.extents)) (among (Up m) ups) (among (Up m) lives))
+      (no_sets (Up m) Stored (λ a b h. cc) t.cells)
+      ∙ ap (λ b. told_by false b (among (Up m) ups) (among (Up m) lives)) (no_sets (Up m) Extent (λ a b h. cc) t.extents)
+      ∙ ap (λ b. told_by false false (among (Up m) ups) b) (no_lives xs (Up m) (λ n h. cc) d)
+      ∙ or_false (among (Up m) ups)
+      ∙ up_told xs m d
+      ∙ ap (λ b. b && is_some (parent_in (object_at xs m))) (knows_number d ns k m)
+      ∙ parent_told (has_number ns m) (object_at xs m)
+      ∙ ap (λ q. not (numbers_equal (parent_in (object_at xs m)) (parent_in q))) (sym (found_left ns xs m))
   rid_changed (Extent m c) =
       has (Extent m c)
-      ∙ ap (λ b. told_by (among (Extent m c) (flat_map (swept_items Extent d) t.extents)) b (among (Extent m c) (flat_map (buried_items d) t.objects)))
+      ∙ ap (λ b. told_by b (among (Extent m c) (flat_map (swept_items Extent d) t.extents)) (among (Extent m c) ups) (among (Extent m c) lives))
       (no_sets (Extent m c) Stored (λ a b h. cc) t.cells)
-      ∙ ap (λ b. told_by (among (Extent m c) (flat_map (swept_items Extent d) t.extents)) false b) (no_objects (Extent m c) (λ n h. cc) (λ n h. cc))
+      ∙ ap (λ b. told_by false (among (Extent m c) (flat_map (swept_items Extent d) t.extents)) b (among (Extent m c) lives))
+      (no_ups xs (Extent m c) (λ n h. cc) d)
+      ∙ ap (λ b. told_by false (among (Extent m c) (flat_map (swept_items Extent d) t.extents)) false b) (no_lives xs (Extent m c) (λ n h. cc) d)
       ∙ or_false (among (Extent m c) (flat_map (swept_items Extent d) t.extents))
       ∙ sets_told Extent extents_apart d m c t.extents sound.extents
       ∙ ap (λ l. not (sets_equal l (set_in (cells_in (map (swept d) t.extents)) m c))) (sound.children m c)
-      ∙ ap (λ l. not (sets_equal (children_in (objects_in t.objects) m c) l)) (children_rid nodes t sound w o positive d k m c
-      ∙ ap (λ (u : State). children_in u.objects m c) (state_rid nodes t sound w o positive d k))
+      ∙ ap (λ l. not (sets_equal (children_in (objects_in t.objects) m c) l)) (children_rid nodes t sound w d ns g m c
+      ∙ ap (λ (u : State). children_in u.objects m c) (state_rid nodes t sound w d ns g))
   rid_changed (Stored m c) =
       has (Stored m c)
-      ∙ ap (λ b. told_by b (among (Stored m c) (flat_map (swept_items Stored d) t.cells)) (among (Stored m c) (flat_map (buried_items d) t.objects)))
+      ∙ ap (λ b. told_by (among (Stored m c) (flat_map (swept_items Stored d) t.cells)) b (among (Stored m c) ups) (among (Stored m c) lives))
       (no_sets (Stored m c) Extent (λ a b h. cc) t.extents)
-      ∙ ap (λ b. told_by false (among (Stored m c) (flat_map (swept_items Stored d) t.cells)) b) (no_objects (Stored m c) (λ n h. cc) (λ n h. cc))
-      ∙ ap (λ b. false || b) (or_false (among (Stored m c) (flat_map (swept_items Stored d) t.cells)))
+      ∙ ap (λ b. told_by (among (Stored m c) (flat_map (swept_items Stored d) t.cells)) false b (among (Stored m c) lives))
+      (no_ups xs (Stored m c) (λ n h. cc) d)
+      ∙ ap (λ b. told_by (among (Stored m c) (flat_map (swept_items Stored d) t.cells)) false false b) (no_lives xs (Stored m c) (λ n h. cc) d)
+      ∙ or_false (among (Stored m c) (flat_map (swept_items Stored d) t.cells))
       ∙ sets_told Stored cells_apart d m c t.cells sound.cells
-      ∙ ap (λ (u : State). not (sets_equal (set_in (cells_in t.cells) m c) (set_in u.cells m c))) (state_rid nodes t sound w o positive d k)
+      ∙ ap (λ (u : State). not (sets_equal (set_in (cells_in t.cells) m c) (set_in u.cells m c))) (state_rid nodes t sound w d ns g)

@@ -1,7 +1,7 @@
 -- What stands under an object, by the rows of the extents and by the objects themselves.
 use Rattle.std.proofs.Common.{◌≡◌, refl, sym, ap, ◌∙◌, subst, ℕ, ◌<◌, ◌≤◌, zero, suc, Bool, true, false, cond, List, [], ◌∷◌, length, get_or, arith, Option}
 use Rattle.std.proofs.Common.{Some, None, eq-eqb, ◌⊎◌, inl, inr}
-use Rattle.std.specs.Prelude.{position, map, filter, fold, ◌==◌, ◌&&◌, ◌||◌, if◌then◌else◌}
+use Rattle.std.specs.Prelude.{position, map, filter, ◌==◌, ◌&&◌, ◌||◌, if◌then◌else◌}
 use Rattle.std.specs.List.{list_any, AllByRecursion}
 use Rattle.std.specs.declared.cmp.Ordering.{Ordering}
 use Rattle.std.specs.declared.cmp.Ordering.TheVariants.{Less, Equal, Greater}
@@ -16,7 +16,6 @@ use Rattle.sheet_columns.specs.Tree.{is_number}
 use Rattle.sheet_state_rows.specs.Rows.{Table, set_row}
 use Rattle.sheet_state_rows.specs.declared.row.ObjectRow.{ObjectRow}
 use Rattle.sheet_state_rows.specs.declared.row.SetRow.{SetRow}
-use Rattle.sheet_meaning.specs.Changes.{has_number}
 use Rattle.sheet_meaning.specs.Workbook.{object_at, children_in, is_child, set_in}
 use Rattle.sheet_meaning.specs.declared.workbook.LiveObject.{LiveObject}
 use Rattle.sheet_meaning.proofs.Members.{IsIn, both_true}
@@ -26,7 +25,6 @@ use Rattle.sheet_state_references.proofs.Numbers.{ties}
 use Rattle.sheet_state.specs.Rows.{is_object, is_set, objects_in, cells_in, object_cmp, row_cmp, IsSound}
 use Rattle.sheet_state.proofs.Lookups.{first_at, first_read, set_found, set_first, set_skip}
 use Rattle.sheet_state.proofs.Searching.{found, objects_follow, rows_follow, object_tests, set_tests}
-use Rattle.sheet_state.proofs.Without.{step, step_other}
 use Rattle.sheet_state_references.proofs.Searched.{nat_less, right, one_of}
 
 abbrev none : SetRow
@@ -210,19 +208,6 @@ module _ (t : Table) (sound : IsSound t) where
 
   pub down_child : (x : LiveObject) (p : ℕ) → IsIn x xs → x.parent ≡ Some p → stands_under t.extents p x.number ≡ true
   down_child x p i e = held_under t.extents p x.column x.number (ap (contains (Object x.number)) (sound.children p x.column) ∙ child_held xs x p i e)
-
--- what was counted among a family is there
-pub number_in : (o : ℕ) (xs : List LiveObject) (ns : List ℕ) (m : ℕ) → has_number (fold (step o) ns xs) m ≡ true →
-    (has_number ns m ≡ true) ⊎ ((x : LiveObject) × IsIn x xs × (x.number ≡ m))
-number_in o [] ns m h = inl h
-number_in o (x ∷ xs) ns m h =
-    elim (number_in o xs (step o ns x) m h) [
-      | inl e ↦ elim (x.number == m) as (λ b. (x.number == m) ≡ b → (has_number ns m ≡ true) ⊎ ((y : LiveObject) × IsIn y (x ∷ xs) × (y.number ≡ m))) [
-        | true ↦ λ t. inr (x, inl refl, eqb-true x.number m t)
-        | false ↦ λ t. inl (sym (step_other o ns x m (λ s. let hit : (x.number == m) ≡ true = eq-eqb x.number m s in cc)) ∙ e)
-      ] refl
-      | inr f ↦ inr (f.0, inr f.1, f.2)
-    ]
 
 abbrev by_number : LiveObject → LiveObject → Ordering
 by_number = on (λ (x : LiveObject). x.number) nat_cmp

@@ -199,7 +199,7 @@ filter_all P p [] h = tt
 filter_all P p (x ∷ xs) h =
     elim (p x) as (λ b. AllByRecursion P (cond b (x ∷ filter p xs) (filter p xs))) [ true ↦ (h.0, filter_all P p xs h.1) | false ↦ filter_all P p xs h.1 ]
 
-filter_kept : {A : Type 0} (P Q : A → Type 0) (p : A → Bool) → ((x : A) → p x ≡ true → P x → Q x) → (xs : List A) → AllByRecursion P xs →
+pub filter_kept : {A : Type 0} (P Q : A → Type 0) (p : A → Bool) → ((x : A) → p x ≡ true → P x → Q x) → (xs : List A) → AllByRecursion P xs →
     AllByRecursion Q (filter p xs)
 filter_kept P Q p f [] h = tt
 filter_kept {A} P Q p f (x ∷ xs) h =
@@ -294,10 +294,21 @@ cells_weighed nodes (x ∷ xs) cells next =
     let counted = formulas_counted nodes x.number x.column in
     omega (arith, whole, rest, states, as_many, formulas, counted)
 
-module _ (nodes : List Node) (s : State) (w : IsWellFormed (book nodes s)) (o : ℕ) (positive : 0 < o) where
-  abbrev ns : List ℕ
-  ns = family s.objects o
+-- with an object some hold all that stand directly under it
+abbrev pub IsDown : List ℕ → LiveObject → Type 0
+IsDown ns x = has_parent_in ns x.parent ≡ true → has_number ns x.number ≡ true
 
+pub family_down : (nodes : List Node) (s : State) → IsWellFormed (book nodes s) → (o : ℕ) → 0 < o → AllByRecursion (IsDown (family s.objects o)) s.objects
+family_down nodes s w o positive =
+    all_mono (IsClosed o (family s.objects o)) (IsDown (family s.objects o))
+    (λ x c h. c ∙ ap (λ b. x.number == o || b) h ∙ or_true (x.number == o)) s.objects (family_closed nodes s w o positive)
+  where
+    or_true : (b : Bool) → (b || true) ≡ true
+    or_true true = refl
+    or_true false = refl
+
+module _ (nodes : List Node) (s : State) (w : IsWellFormed (book nodes s)) (ns : List ℕ) (down : AllByRecursion (IsDown ns) s.objects) (no_root : has_number ns
+    0 ≡ false) where
   abbrev after : State
   after = without s ns
 
@@ -339,7 +350,7 @@ module _ (nodes : List Node) (s : State) (w : IsWellFormed (book nodes s)) (o : 
       let rest = values_cleaned xs in
       omega (arith, a, b, short, rest)
 
-  under_left : (x : LiveObject) (p : Option ℕ) → IsClosed o ns x → x.parent ≡ p → stays ns x ≡ true → IsUnder (book nodes s) x p →
+  under_left : (x : LiveObject) (p : Option ℕ) → IsDown ns x → x.parent ≡ p → stays ns x ≡ true → IsUnder (book nodes s) x p →
       IsUnder (book nodes after) x p
   under_left x None closed_at e alive h = h
   under_left x (Some p) closed_at e alive h =
@@ -349,16 +360,11 @@ module _ (nodes : List Node) (s : State) (w : IsWellFormed (book nodes s)) (o : 
       parent_stays =
           elim (has_number ns p) as (λ b. has_number ns p ≡ b → b ≡ false) [
             | true ↦ λ t.
-                let inside : has_number ns x.number ≡ true = closed_at ∙ ap (λ q. x.number == o || has_parent_in ns q) e ∙ ap (λ b. x.number == o || b) t
-                ∙ or_true (x.number == o) in
+                let inside : has_number ns x.number ≡ true = closed_at (ap (has_parent_in ns) e ∙ t) in
                 let out : not true ≡ true = ap not (sym inside) ∙ alive in
                 cc
             | false ↦ λ t. refl
           ] refl
-        where
-          or_true : (b : Bool) → (b || true) ≡ true
-          or_true true = refl
-          or_true false = refl
 
   zip_all : (P Q : LiveObject → Type 0) (xs : List LiveObject) → AllByRecursion P xs → AllByRecursion Q xs → AllByRecursion (λ x. P x × Q x) xs
   zip_all P Q [] h g = tt
@@ -377,12 +383,12 @@ module _ (nodes : List Node) (s : State) (w : IsWellFormed (book nodes s)) (o : 
       let few_values = w.few_values in
       record {
         formulas = w.formulas;
-        root = found_left ns s.objects 0 ∙ ap (λ b. if b then None else object_at s.objects 0) (root_stays nodes s w o positive) ∙ w.root;
+        root = found_left ns s.objects 0 ∙ ap (λ b. if b then None else object_at s.objects 0) no_root ∙ w.root;
         rising = filter_rising by_number (on_total (λ (x : LiveObject). x.number) nat_cmp_total) (stays ns) s.objects w.rising;
         under =
-            filter_kept (λ (x : LiveObject). IsClosed o ns x × IsUnder (book nodes s) x x.parent) (λ (x : LiveObject). IsUnder (book nodes after) x x.parent)
+            filter_kept (λ (x : LiveObject). IsDown ns x × IsUnder (book nodes s) x x.parent) (λ (x : LiveObject). IsUnder (book nodes after) x x.parent)
             (stays ns) (λ x alive h. under_left x x.parent h.0 refl alive h.1) s.objects
-            (zip_all (IsClosed o ns) (λ (x : LiveObject). IsUnder (book nodes s) x x.parent) s.objects (family_closed nodes s w o positive) w.under);
+            (zip_all (IsDown ns) (λ (x : LiveObject). IsUnder (book nodes s) x x.parent) s.objects down w.under);
         drawn = filter_all (λ (x : LiveObject). x.number < s.next) (stays ns) s.objects w.drawn;
         cells = keys_left ns s.cells ∙ ap (filter (λ (p : ℕ × ℕ). not (has_number ns p.0))) w.cells
             ∙ pairs_left ns (λ (x : LiveObject). state_columns (schema_of nodes) x.column) (λ (k : StateColumn). k.number) s.objects;

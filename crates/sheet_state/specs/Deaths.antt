@@ -1,9 +1,9 @@
 -- The rows after objects are gone.
-use Rattle.std.specs.Prelude.{ℕ, ◌+◌, ◌-◌, ◌&&◌, nat_lt, slice_index_or, Bool, false, if◌then◌else◌, List, [], ◌∷◌, map, length, sum_by, Option, Some, None}
+use Rattle.std.specs.Prelude.{ℕ, ◌+◌, ◌-◌, ◌&&◌, nat_lt, slice_index_or, Bool, false, if◌then◌else◌, List, [], ◌∷◌, map, length, sum_by, is_some, None}
 use Rattle.std.specs.List.{flat_map}
 use Rattle.sheet_values.specs.Sets.{contains, minus}
 use Rattle.sheet_values.specs.declared.value.Value.{Value}
-use Rattle.sheet_values.specs.declared.value.Value.TheVariants.{Object}
+use Rattle.sheet_values.specs.declared.value.Value.TheVariants.{Truth, Number, Text, Object}
 use Rattle.sheet_columns.specs.declared.item.Item.{Item}
 use Rattle.sheet_columns.specs.declared.item.Item.TheVariants.{Live, Up, Extent, Stored}
 use Rattle.sheet_columns.specs.declared.tree.Node.{Node}
@@ -11,9 +11,12 @@ use Rattle.sheet_state_rows.specs.Rows.{Table, with_objects, with_cells, with_ex
 use Rattle.sheet_state_rows.specs.declared.row.Counters.{Counters}
 use Rattle.sheet_state_rows.specs.declared.row.ObjectRow.{ObjectRow}
 use Rattle.sheet_state_rows.specs.declared.row.SetRow.{SetRow}
+use Rattle.sheet_meaning.specs.Workbook.{object_at, column_in, parent_in}
 use Rattle.sheet_meaning.specs.WellFormed.{state_columns}
+use Rattle.sheet_meaning.specs.declared.workbook.LiveObject.{LiveObject}
 use Rattle.sheet_state.specs.Births.{with_items, formula_columns}
 use Rattle.sheet_state.specs.Kept.{schema_of}
+use Rattle.sheet_state.specs.Rows.{objects_in}
 
 -- whether a row is that of a live object among these
 abbrev pub is_doomed : List Value → ObjectRow → Bool
@@ -41,14 +44,19 @@ set_row rows k = slice_index_or rows k (record { object = 0; column = 0; live = 
 abbrev pub lost : List Value → SetRow → ℕ
 lost d r = length r.set - length (swept d r).set
 
--- the item of the object above, where there is one
-abbrev pub up_items : ℕ → Option ℕ → List Item
-up_items o None = []
-up_items o (Some p) = Up o ∷ []
+-- the item of an object, for a value that is a live one
+abbrev pub live_items : List LiveObject → Value → List Item
+live_items xs (Truth b) = []
+live_items xs (Number n) = []
+live_items xs (Text t) = []
+live_items xs (Object o) = if is_some (column_in (object_at xs o)) then Live o ∷ [] else []
 
--- the items that an object's going changes
-abbrev pub buried_items : List Value → ObjectRow → List Item
-buried_items d r = if is_doomed d r then Live r.number ∷ up_items r.number r.parent else []
+-- the item of the object above, for a value that is a live object under another
+abbrev pub up_items : List LiveObject → Value → List Item
+up_items xs (Truth b) = []
+up_items xs (Number n) = []
+up_items xs (Text t) = []
+up_items xs (Object o) = if is_some (parent_in (object_at xs o)) then Up o ∷ [] else []
 
 -- the item of a set that changes
 abbrev pub swept_items : (ℕ → ℕ → Item) → List Value → SetRow → List Item
@@ -78,4 +86,8 @@ rid_of nodes d t = with_counters (with_extents (with_cells (with_objects t (map 
 -- the items that this changes
 abbrev pub rid_items : List Value → Table → List Item
 rid_items d t =
-    with_items (with_items (with_items [] (flat_map (buried_items d) t.objects)) (flat_map (swept_items Stored d) t.cells)) (flat_map (swept_items Extent d) t.extents)
+    with_items
+    (with_items
+    (with_items (with_items [] (flat_map (live_items (objects_in t.objects)) d)) (flat_map (up_items (objects_in t.objects)) d))
+    (flat_map (swept_items Extent d) t.extents))
+    (flat_map (swept_items Stored d) t.cells)

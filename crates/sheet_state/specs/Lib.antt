@@ -4,4 +4,5 @@ pub mod Rows
 pub mod Places
 pub mod Births
 pub mod Deaths
+pub mod Removals
 pub mod Schemas

@@ -61,3 +61,7 @@ IsHomeOf objects extents o k = (p : ℕ) × (x : LiveObject) × (object_at (obje
 -- the number behind each of these objects can be written
 abbrev pub AreSmall : List Value → Type 0
 AreSmall d = (n : ℕ) → contains (Object n) d ≡ true → n + 1 < 2 ^ 64
+
+-- all of these are objects
+abbrev pub AreObjects : List Value → Type 0
+AreObjects d = (v : Value) → contains v d ≡ true → (n : ℕ) × (v ≡ Object n)

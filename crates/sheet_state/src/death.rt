@@ -1,14 +1,17 @@
 // The rows after objects are gone.
-ghost use Rattle.std.specs.Prelude.{◌≡◌, ◌+◌, ◌-◌, ◌<◌, ◌≤◌, [], map, length, sum_by, OnOk, IfOk, if◌then◌else◌, slice_set, unwrap_or, false};
+ghost use Rattle.std.specs.Prelude.{◌≡◌, ◌+◌, ◌-◌, ◌<◌, ◌≤◌, [], ◌∷◌, map, length, sum_by, OnOk, IfOk, if◌then◌else◌, slice_set, unwrap_or, false};
 ghost use Rattle.std.specs.List.{flat_map};
 ghost use Rattle.sheet_values.specs.Sets.{minus};
+ghost use Rattle.sheet_values.specs.Sorted.{IsRising};
 ghost use Rattle.sheet_columns.specs.declared.item.Item.TheVariants.{Extent, Stored};
 ghost use Rattle.sheet_state_rows.specs.Rows.{with_objects, with_cells, with_extents};
 ghost use Rattle.sheet_state.specs.Births.{with_items};
+ghost use Rattle.sheet_state.specs.Rows.{object_cmp, objects_in};
 ghost use Rattle.sheet_state.specs.Places.{Covers};
-ghost use Rattle.sheet_state.specs.Deaths.{object_row, set_row, buried, swept, lost, buried_items, swept_items, lost_cells, lost_objects, rid_of, rid_items};
+ghost use Rattle.sheet_state.specs.Deaths.{object_row, set_row, buried, swept, lost, live_items, up_items, swept_items, lost_cells, lost_objects, rid_of, rid_items};
 
 use crate::birth::weight_of;
+use crate::lookup::{is_live, parent_of};
 use crate::places::Places;
 use sheet_columns::{Columns, Item, Items};
 use sheet_state_rows::{Counters, ObjectRow, SetRow, Tables};
@@ -24,6 +27,7 @@ pub fn be_rid_of(
     doomed: &Set,
     places: &mut Places,
 ) -> Result<Items, NoMemory>
+    requires rising { IsRising object_cmp tables.old.present.objects }
     requires objects { Covers (buried doomed.now) tables.old.present.objects places.old.objects.keys }
     requires cells { Covers (swept doomed.now) tables.old.present.cells places.old.cells.keys }
     requires extents { Covers (swept doomed.now) tables.old.present.extents places.old.extents.keys }
@@ -33,14 +37,10 @@ pub fn be_rid_of(
 {
     let counters = tables.counters();
     let mut items = Items::new(alloc);
-    let (objects, cells) = bury_all(
-        tables,
-        columns,
-        doomed,
-        &mut places.objects,
-        &mut items,
-        counters,
-    )?;
+    add_lives(tables.objects(), doomed, &mut items)?;
+    add_ups(tables.objects(), doomed, &mut items)?;
+    let (objects, cells) = bury_all(tables, columns, doomed, &mut places.objects, counters)?;
+    sweep_extents(alloc, tables, doomed, &mut places.extents, &mut items)?;
     let values = sweep_cells(
         alloc,
         tables,
@@ -49,7 +49,6 @@ pub fn be_rid_of(
         &mut items,
         counters.values,
     )?;
-    sweep_extents(alloc, tables, doomed, &mut places.extents, &mut items)?;
     tables.count(Counters {
         next: counters.next,
         objects,
@@ -59,18 +58,74 @@ pub fn be_rid_of(
     Ok(items)
 }
 
+// Adds the items of these objects. Items come in rising order here, so that each is put at the end.
+fn add_lives(rows: &[ObjectRow], doomed: &Set, items: &mut Items) -> Result<(), NoMemory>
+    requires { IsRising object_cmp rows.now }
+    ensures { OnOk result (items.new ≡ with_items items.old (flat_map (live_items (objects_in rows.now)) doomed.now)) }
+{
+    for value in doomed.as_slice() {
+        add_live_item(rows, value, items)?;
+    }
+    Ok(())
+}
+
+// Adds the item of an object, for a value that is a live one.
+fn add_live_item(rows: &[ObjectRow], value: &Value, items: &mut Items) -> Result<(), NoMemory>
+    requires { IsRising object_cmp rows.now }
+    ensures { OnOk result (items.new ≡ with_items items.old (live_items (objects_in rows.now) value.now)) }
+{
+    match value {
+        Value::Object(number) => add_if(items, Item::Live(*number), is_live(rows, *number)),
+        _ => Ok(()),
+    }
+}
+
+// Adds the items of the objects above these objects.
+fn add_ups(rows: &[ObjectRow], doomed: &Set, items: &mut Items) -> Result<(), NoMemory>
+    requires { IsRising object_cmp rows.now }
+    ensures { OnOk result (items.new ≡ with_items items.old (flat_map (up_items (objects_in rows.now)) doomed.now)) }
+{
+    for value in doomed.as_slice() {
+        add_up_item(rows, value, items)?;
+    }
+    Ok(())
+}
+
+// Adds the item of the object above, for a value that is a live object under another.
+fn add_up_item(rows: &[ObjectRow], value: &Value, items: &mut Items) -> Result<(), NoMemory>
+    requires { IsRising object_cmp rows.now }
+    ensures { OnOk result (items.new ≡ with_items items.old (up_items (objects_in rows.now) value.now)) }
+{
+    match value {
+        Value::Object(number) => add_if(
+            items,
+            Item::Up(*number),
+            parent_of(rows, *number).is_some(),
+        ),
+        _ => Ok(()),
+    }
+}
+
+// Adds an item where it is wanted.
+fn add_if(items: &mut Items, item: Item, wanted: bool) -> Result<(), NoMemory>
+    ensures { OnOk result (items.new ≡ with_items items.old (if wanted then item ∷ [] else [])) }
+{
+    if wanted {
+        items.insert(item)?;
+    }
+    Ok(())
+}
+
 // Marks the rows of these objects as gone; how many objects and cells are left.
 fn bury_all(
     tables: &mut Tables,
     columns: &Columns,
     doomed: &Set,
     places: &mut BTreeSet<usize>,
-    items: &mut Items,
     counters: Counters,
 ) -> Result<(u64, u64), NoMemory>
     requires { Covers (buried doomed.now) tables.old.present.objects places.old.keys }
     ensures present { OnOk result (tables.new.present ≡ with_objects tables.old.present (map (buried doomed.now) tables.old.present.objects)) }
-    ensures items { OnOk result (items.new ≡ with_items items.old (flat_map (buried_items doomed.now) tables.old.present.objects)) }
     ensures objects { IfOk result (λ left. left.0 ≡ counters.objects - sum_by (lost_objects doomed.now) tables.old.present.objects) }
     ensures cells { IfOk result (λ left. left.1 ≡ counters.cells - sum_by (lost_cells columns.now doomed.now) tables.old.present.objects) }
     ensures earlier { tables.new.earlier ≡ tables.old.earlier }
@@ -78,7 +133,7 @@ fn bury_all(
     let mut objects = counters.objects;
     let mut cells = counters.cells;
     while let Some(place) = places.pop_first() {
-        let gone = bury(tables, columns, doomed, items, place)?;
+        let gone = bury(tables, columns, doomed, place)?;
         objects = objects.saturating_sub(gone.0);
         cells = cells.saturating_sub(gone.1);
     }
@@ -90,12 +145,10 @@ fn bury(
     tables: &mut Tables,
     columns: &Columns,
     doomed: &Set,
-    items: &mut Items,
     place: usize,
 ) -> Result<(u64, u64), NoMemory>
     requires { place < length tables.old.present.objects }
     ensures present { OnOk result (tables.new.present ≡ with_objects tables.old.present (slice_set tables.old.present.objects place (buried doomed.now (object_row tables.old.present.objects place)))) }
-    ensures items { OnOk result (items.new ≡ with_items items.old (buried_items doomed.now (object_row tables.old.present.objects place))) }
     ensures objects { IfOk result (λ gone. gone.0 ≡ lost_objects doomed.now (object_row tables.old.present.objects place)) }
     ensures cells { IfOk result (λ gone. gone.1 ≡ lost_cells columns.now doomed.now (object_row tables.old.present.objects place)) }
     ensures earlier { tables.new.earlier ≡ tables.old.earlier }
@@ -103,10 +156,6 @@ fn bury(
     let row = tables.objects()[place];
     if !(row.live && doomed.contains(&Value::Object(row.number))) {
         return Ok((0, 0));
-    }
-    items.insert(Item::Live(row.number))?;
-    if row.parent.is_some() {
-        items.insert(Item::Up(row.number))?;
     }
     tables.replace_object(place, ObjectRow { live: false, ..row })?;
     let weight = weight_of(columns, row.column);

@@ -1,15 +1,14 @@
 // Where the rows stand that may change when objects go.
-ghost use Rattle.std.specs.Prelude.{◌≡◌, ℕ, ◌+◌, ◌<◌, ◌^◌, List, [], length, true, position, IsSome, Some, OnOk, IfOk};
+ghost use Rattle.std.specs.Prelude.{◌≡◌, ℕ, ◌+◌, ◌<◌, ◌^◌, List, [], length, true, position, Some, OnOk, IfOk};
 ghost use Rattle.sheet_values.specs.Sorted.{IsRising};
 ghost use Rattle.sheet_values.specs.Sets.{contains};
 ghost use Rattle.sheet_values.specs.declared.value.Value.TheVariants.{Object};
 ghost use Rattle.sheet_columns.specs.declared.tree.Node.{Node};
-ghost use Rattle.sheet_meaning.specs.Workbook.{object_at};
-ghost use Rattle.sheet_state_references.specs.Below.{has, NeverFalls, IsFamily};
+ghost use Rattle.sheet_state_references.specs.Below.{has, NeverFalls};
 ghost use Rattle.sheet_state.specs.Deaths.{buried, swept};
 ghost use Rattle.sheet_state.specs.Kept.{IsMoment};
-ghost use Rattle.sheet_state.specs.Places.{Adds, OfAny, IsRowOf, IsOwnRow, RefersTo, IsHomeOf, Covers, IsListed, AreSmall};
-ghost use Rattle.sheet_state.specs.Rows.{object_cmp, row_cmp, is_set, objects_in, moment, IsSound};
+ghost use Rattle.sheet_state.specs.Places.{Adds, OfAny, IsRowOf, IsOwnRow, RefersTo, IsHomeOf, Covers, IsListed, AreSmall, AreObjects};
+ghost use Rattle.sheet_state.specs.Rows.{object_cmp, row_cmp, is_set, moment, IsSound};
 
 use crate::lookup::{object_place, set_place};
 use sheet_state_references::{References, own_places};
@@ -26,20 +25,18 @@ pub struct Places {
     pub extents: BTreeSet<usize>,
 }
 
-/// The places of the rows that may change when an object goes with all below it.
+/// The places of the rows that may change when these objects go.
 pub fn places_of(
     alloc: Global,
     tables: &Tables,
     references: &References,
-    object: u64,
     doomed: &Set,
 ) -> Result<Places, NoMemory>
     requires sound { IsSound tables.now.present }
     requires kept { (nodes : List Node) × IsMoment nodes (moment tables.now.present) }
     requires listed { IsListed references.now tables.now.present }
-    requires live { IsSome (object_at (objects_in tables.now.present.objects) object) }
-    requires not_root { 0 < object }
-    requires family { IsFamily tables.now.present.extents object doomed.now }
+    requires only { AreObjects doomed.now }
+    requires small { AreSmall doomed.now }
     ensures objects { IfOk result (λ places. Covers (buried doomed.now) tables.now.present.objects places.objects.keys) }
     ensures cells { IfOk result (λ places. Covers (swept doomed.now) tables.now.present.cells places.cells.keys) }
     ensures extents { IfOk result (λ places. Covers (swept doomed.now) tables.now.present.extents places.extents.keys) }
@@ -48,7 +45,7 @@ pub fn places_of(
     let mut cells = own_rows(alloc, tables.cells(), doomed)?;
     add_referring(alloc, tables.cells(), references, doomed, &mut cells)?;
     let mut extents = own_rows(alloc, tables.extents(), doomed)?;
-    add_home(tables.objects(), tables.extents(), object, &mut extents)?;
+    add_homes(tables.objects(), tables.extents(), doomed, &mut extents)?;
     Ok(Places {
         objects,
         cells,
@@ -161,6 +158,25 @@ fn add_set(
 {
     if let Some(place) = set_place(rows, object, column) {
         places.insert(place)?;
+    }
+    Ok(())
+}
+
+// Adds the places of the extents that these objects stand in.
+fn add_homes(
+    objects: &[ObjectRow],
+    extents: &[SetRow],
+    doomed: &Set,
+    places: &mut BTreeSet<usize>,
+) -> Result<(), NoMemory>
+    requires objects { IsRising object_cmp objects.now }
+    requires extents { IsRising row_cmp extents.now }
+    ensures { OnOk result (Adds (OfAny doomed.now (IsHomeOf objects.now extents.now)) (length extents.now) places.old.keys places.new.keys) }
+{
+    for value in doomed.as_slice() {
+        if let Value::Object(number) = value {
+            add_home(objects, extents, *number, places)?;
+        }
     }
     Ok(())
 }

@@ -1,10 +1,13 @@
 // The state of a workbook.
-ghost use Rattle.std.specs.Prelude.{◌≡◌, ℕ, List, ◌<◌, ◌≤◌, ◌+◌, ◌++◌, [], ◌∷◌, length, take, slice_get, slice_set, Some, None, IsSome, is_some, OnOk, OnErr, IfOk, IfErr, IfSome, MatchOption, option_map};
+ghost use Rattle.std.specs.Prelude.{◌≡◌, ℕ, List, ◌<◌, ◌≤◌, ◌+◌, ◌++◌, [], ◌∷◌, length, take, slice_get, slice_set, Some, None, IsSome, is_some, false, OnOk, OnErr, IfOk, IfErr, IfSome, MatchOption};
 ghost use Rattle.sheet_columns.specs.Tree.{column_of, above_of};
 ghost use Rattle.sheet_columns.specs.declared.tree.Node.{Node};
 ghost use Rattle.sheet_columns.specs.declared.tree.Column.TheVariants.{Object as object_column};
 ghost use Rattle.sheet_columns.specs.declared.item.Item.TheVariants.{Stored};
 ghost use Rattle.sheet_state_rows.specs.Rows.{with_cells, with_counters, set_row};
+ghost use Rattle.sheet_values.specs.Sets.{contains};
+ghost use Rattle.sheet_values.specs.declared.value.Value.TheVariants.{Object};
+ghost use Rattle.sheet_state.specs.Removals.{without_all, AreLive, AddsLive};
 ghost use Rattle.sheet_values.specs.Sorted.{IsRising};
 ghost use Rattle.sheet_meaning.specs.Start.{start_state};
 ghost use Rattle.sheet_meaning.specs.Changes.{with_set, with_object, without_object};
@@ -15,20 +18,21 @@ ghost use Rattle.sheet_state.specs.Deaths.{buried, swept, rid_of, rid_items};
 ghost use Rattle.sheet_state.specs.Kept.{IsKept, AreChanged, schema_of, book};
 ghost use Rattle.sheet_state.specs.Places.{Covers, IsListed};
 ghost use Rattle.sheet_state_references.specs.declared.references.Reference.{Reference};
-ghost use Rattle.sheet_state.specs.Rows.{IsSound, moment, object_of, objects_in, cells_in, object_cmp, row_cmp};
+ghost use Rattle.sheet_state.specs.Rows.{IsSound, moment, objects_in, cells_in, object_cmp, row_cmp};
 ghost use Rattle.sheet_state.specs.Limits.{full_of, first_full, Refuses};
 
 use crate::StateRefusal;
 use crate::birth::{add_rows, weight_of};
 use crate::death::be_rid_of;
-use crate::lookup::{object_place, set_place};
+use crate::lookup::{is_live, parent_of, row_of, set_place};
 use crate::places::{Places, places_of};
 use sheet_columns::{Columns, Item, Items};
 use sheet_meaning::Which;
-use sheet_state_references::{References, family_of};
+use sheet_state_references::{References, families_of};
 use sheet_state_rows::{Counters, ObjectRow, SetRow, Tables};
-use sheet_values::{NoMemory, Set};
+use sheet_values::{NoMemory, Set, Value};
 use std::alloc::Global;
+use std::collections::BTreeSet;
 use std::marker::Model;
 
 const MAX_OBJECTS: u64 = 100_000;
@@ -207,8 +211,25 @@ impl State {
         ensures unchanged { OnErr result (self.new ≡ self.old) }
         ensures kept { IsKept columns.now self.new }
     {
-        let doomed = family_of(self.alloc, self.tables.extents(), object)?;
-        let mut places = places_of(self.alloc, &self.tables, &self.references, object, &doomed)?;
+        let objects = Set::one(self.alloc, Value::Object(object))?;
+        self.delete_all(columns, &objects)
+    }
+
+    /// Takes the objects of a set away one after another, each with all below it, where it is still live; the items whose content
+    /// this changed. It is one change. Each set of rows that it changes is written once, so it takes time by what goes, what refers
+    /// to it, and the lists that it stands in. Nothing changes after the refusal.
+    pub fn delete_all(&mut self, columns: &Columns, objects: &Set) -> Result<Items, NoMemory>
+        requires kept { IsKept columns.now self.old }
+        requires not_root { contains (Object 0) objects.now ≡ false }
+        ensures state { OnOk result (self.new.present.state ≡ without_all self.old.present.state objects.now) }
+        ensures changed { IfOk result (λ items. AreChanged self.old.present.state self.new.present.state items) }
+        ensures earlier { OnOk result (self.new.earlier ≡ self.old.earlier ++ self.old.present ∷ []) }
+        ensures unchanged { OnErr result (self.new ≡ self.old) }
+        ensures kept { IsKept columns.now self.new }
+    {
+        let starts = live_of(self.alloc, self.tables.objects(), objects)?;
+        let doomed = families_of(self.alloc, self.tables.extents(), starts)?;
+        let mut places = places_of(self.alloc, &self.tables, &self.references, &doomed)?;
         let items = take_away(self.alloc, &mut self.tables, columns, &doomed, &mut places)?;
         Ok(items)
     }
@@ -261,17 +282,14 @@ impl State {
     pub fn parent(&self, object: u64) -> Option<u64>
         ensures { result ≡ parent_in (object_at self.now.present.state.objects object) }
     {
-        match row_of(self.tables.objects(), object) {
-            Some(row) => row.parent,
-            None => None,
-        }
+        parent_of(self.tables.objects(), object)
     }
 
     /// Whether the object is live. It takes no memory.
     pub fn is_live(&self, object: u64) -> bool
         ensures { result ≡ is_some (column_in (object_at self.now.present.state.objects object)) }
     {
-        row_of(self.tables.objects(), object).is_some()
+        is_live(self.tables.objects(), object)
     }
 
     /// The column of an object: none where it isn't live. It takes no memory.
@@ -292,14 +310,44 @@ impl State {
     }
 }
 
-// The row of a live object.
-fn row_of(rows: &[ObjectRow], object: u64) -> Option<ObjectRow>
+// The live objects of a set.
+fn live_of(alloc: Global, rows: &[ObjectRow], objects: &Set) -> Result<BTreeSet<u64>, NoMemory>
     requires { IsRising object_cmp rows.now }
-    ensures { option_map object_of result ≡ object_at (objects_in rows.now) object }
+    ensures { IfOk result (λ live. AreLive (objects_in rows.now) objects.now live.keys) }
 {
-    match object_place(rows, object) {
-        Some(place) => Some(rows[place]),
-        None => None,
+    let mut live = BTreeSet::new(alloc);
+    for value in objects.as_slice() {
+        add_live(rows, value, &mut live)?;
+    }
+    Ok(live)
+}
+
+// Adds a value that is a live object.
+fn add_live(rows: &[ObjectRow], value: &Value, live: &mut BTreeSet<u64>) -> Result<(), NoMemory>
+    requires { IsRising object_cmp rows.now }
+    ensures { OnOk result (AddsLive (objects_in rows.now) value.now live.old.keys live.new.keys) }
+{
+    match value {
+        Value::Object(number) => add_live_object(rows, *number, live),
+        _ => Ok(()),
+    }
+}
+
+// Adds an object that is live.
+fn add_live_object(
+    rows: &[ObjectRow],
+    object: u64,
+    live: &mut BTreeSet<u64>,
+) -> Result<(), NoMemory>
+    requires { IsRising object_cmp rows.now }
+    ensures { OnOk result (AddsLive (objects_in rows.now) (Object object) live.old.keys live.new.keys) }
+{
+    match row_of(rows, object) {
+        Some(_) => {
+            live.insert(object)?;
+            Ok(())
+        }
+        None => Ok(()),
     }
 }
 
@@ -449,6 +497,7 @@ fn take_away(
     doomed: &Set,
     places: &mut Places,
 ) -> Result<Items, NoMemory>
+    requires rising { IsRising object_cmp tables.old.present.objects }
     requires objects { Covers (buried doomed.now) tables.old.present.objects places.old.objects.keys }
     requires cells { Covers (swept doomed.now) tables.old.present.cells places.old.cells.keys }
     requires extents { Covers (swept doomed.now) tables.old.present.extents places.old.extents.keys }

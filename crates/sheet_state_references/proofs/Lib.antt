@@ -1,5 +1,4 @@
 pub mod Between
-pub mod Descending
 pub mod Inserted
 pub mod Numbers
 pub mod Searched

@@ -1,4 +1,4 @@
--- The search for all below an object, from what waits and what was found so far.
+-- The search for all below some objects, from what waits and what was found so far.
 use Rattle.std.proofs.Common.{◌≡◌, refl, sym, ap, ◌∙◌, ℕ, ◌-◌, ◌<◌, ◌^◌, suc, Bool, true, false, List, [], ◌∷◌, arith, eq-eqb, ◌⊎◌, inl, inr}
 use Rattle.std.specs.Prelude.{◌||◌}
 use Rattle.std.specs.List.{All}
@@ -11,16 +11,16 @@ use Rattle.sheet_values.specs.Sets.{contains, insert}
 use Rattle.sheet_values.specs.declared.value.Value.{Value}
 use Rattle.sheet_values.specs.declared.value.Value.TheVariants.{Object}
 use Rattle.sheet_state_rows.specs.declared.row.SetRow.{SetRow}
-use Rattle.sheet_state_references.specs.Below.{has, stands_under, Descends, GoesDown, IsObjectWith, IsFamily}
+use Rattle.sheet_state_references.specs.Below.{has, stands_under, Descends, GoesDown, IsObjectWith, AreFamilies}
 use Rattle.sheet_state_references.proofs.Inserted.{value_is, has_inserted}
 use Rattle.sheet_state_references.proofs.Numbers.{ties}
 
--- what was found goes down to what was found or waits, and all of it belongs to the family
-pub record Searched (rows : List SetRow) (o : ℕ) (waiting : List ℕ) (found : List Value) : Type 0 where
-  pub first : (has o waiting || contains (Object o) found) ≡ true
-  pub down : (p n : ℕ) → contains (Object p) found ≡ true → stands_under rows p n ≡ true → (has n waiting || contains (Object n) found) ≡ true
-  pub waits : (q : ℕ → Bool) → q o ≡ true → GoesDown rows q → (n : ℕ) → has n waiting ≡ true → q n ≡ true
-  pub least : (q : ℕ → Bool) → q o ≡ true → GoesDown rows q → (v : Value) → contains v found ≡ true → IsObjectWith q v
+-- what was found goes down to what was found or waits, and all of it belongs to the families
+pub record Searched (rows : List SetRow) (p : ℕ → Bool) (waiting : List ℕ) (found : List Value) : Type 0 where
+  pub first : (n : ℕ) → p n ≡ true → (has n waiting || contains (Object n) found) ≡ true
+  pub down : (m n : ℕ) → contains (Object m) found ≡ true → stands_under rows m n ≡ true → (has n waiting || contains (Object n) found) ≡ true
+  pub waits : (q : ℕ → Bool) → ((n : ℕ) → p n ≡ true → q n ≡ true) → GoesDown rows q → (n : ℕ) → has n waiting ≡ true → q n ≡ true
+  pub least : (q : ℕ → Bool) → ((n : ℕ) → p n ≡ true → q n ≡ true) → GoesDown rows q → (v : Value) → contains v found ≡ true → IsObjectWith q v
 
 pub one_of : (a b : Bool) → (a || b) ≡ true → (a ≡ true) ⊎ (b ≡ true)
 one_of true b e = inl refl
@@ -49,19 +49,15 @@ shift false true c d e = refl
 shift false false c true e = refl
 shift false false c false e = e
 
-pub starts : (rows : List SetRow) (o : ℕ) → Searched rows o (o ∷ []) []
-starts rows o = record {
-  first = left (has o (o ∷ [])) false (left (is_eq (nat_cmp o o)) false (itself o));
-  down = λ p n h u. cc;
-  waits = λ q e down n h. at q e n (one_of (is_eq (nat_cmp n o)) false h);
+pub starts : (rows : List SetRow) (waiting : List ℕ) → Searched rows (λ n. has n waiting) waiting []
+starts rows waiting = record {
+  first = λ n e. left (has n waiting) false e;
+  down = λ m n h u. cc;
+  waits = λ q e down n h. e n h;
   least = λ q e down v h. cc;
 }
-  where
-    at : (q : ℕ → Bool) → q o ≡ true → (n : ℕ) → (is_eq (nat_cmp n o) ≡ true) ⊎ (false ≡ true) → q n ≡ true
-    at q e n (inl h) = ap q (same_number n o h) ∙ e
-    at q e n (inr h) = cc
 
-module _ (rows : List SetRow) (o m : ℕ) (rest : List ℕ) (found : List Value) (s : Searched rows o (m ∷ rest) found) (next : List ℕ) (is : (n : ℕ) →
+module _ (rows : List SetRow) (p : ℕ → Bool) (m : ℕ) (rest : List ℕ) (found : List Value) (s : Searched rows p (m ∷ rest) found) (next : List ℕ) (is : (n : ℕ) →
     has n next ≡ (has n rest || stands_under rows m n)) where
   abbrev more : List Value
   more = insert (Object m) found
@@ -75,35 +71,36 @@ module _ (rows : List SetRow) (o m : ℕ) (rest : List ℕ) (found : List Value)
   below : (n : ℕ) → stands_under rows m n ≡ true → (has n next || contains (Object n) more) ≡ true
   below n u = left (has n next) (contains (Object n) more) (is n ∙ right (has n rest) (stands_under rows m n) u)
 
-  pub turn : Searched rows o next more
+  pub turn : Searched rows p next more
   turn = record {
-    first = still o s.first;
-    down = λ p n h u. goes p n u (one_of (is_eq (nat_cmp p m)) (contains (Object p) found) (sym (has_inserted (Object p) (Object m) found) ∙ h));
+    first = λ n e. still n (s.first n e);
+    down = λ k n h u. goes k n u (one_of (is_eq (nat_cmp k m)) (contains (Object k) found) (sym (has_inserted (Object k) (Object m) found) ∙ h));
     waits = λ q e down n h. wait q e down n (one_of (has n rest) (stands_under rows m n) (sym (is n) ∙ h));
     least = λ q e down v h. found_one q e down v (one_of (is_eq (value_cmp v (Object m))) (contains v found) (sym (has_inserted v (Object m) found) ∙ h));
   }
     where
-      goes : (p n : ℕ) → stands_under rows p n ≡ true → (is_eq (nat_cmp p m) ≡ true) ⊎ (contains (Object p) found ≡ true) →
+      goes : (k n : ℕ) → stands_under rows k n ≡ true → (is_eq (nat_cmp k m) ≡ true) ⊎ (contains (Object k) found ≡ true) →
           (has n next || contains (Object n) more) ≡ true
-      goes p n u (inl h) = below n (ap (λ k. stands_under rows k n) (sym (same_number p m h)) ∙ u)
-      goes p n u (inr h) = still n (s.down p n h u)
+      goes k n u (inl h) = below n (ap (λ j. stands_under rows j n) (sym (same_number k m h)) ∙ u)
+      goes k n u (inr h) = still n (s.down k n h u)
 
-      mine : (q : ℕ → Bool) → q o ≡ true → GoesDown rows q → q m ≡ true
+      mine : (q : ℕ → Bool) → ((n : ℕ) → p n ≡ true → q n ≡ true) → GoesDown rows q → q m ≡ true
       mine q e down = s.waits q e down m (left (is_eq (nat_cmp m m)) (has m rest) (itself m))
 
-      wait : (q : ℕ → Bool) → q o ≡ true → GoesDown rows q → (n : ℕ) → (has n rest ≡ true) ⊎ (stands_under rows m n ≡ true) → q n ≡ true
+      wait : (q : ℕ → Bool) → ((n : ℕ) → p n ≡ true → q n ≡ true) → GoesDown rows q → (n : ℕ) → (has n rest ≡ true) ⊎ (stands_under rows m n ≡ true) → q n ≡ true
       wait q e down n (inl h) = s.waits q e down n (right (is_eq (nat_cmp n m)) (has n rest) h)
       wait q e down n (inr h) = down m n (mine q e down) h
 
-      found_one : (q : ℕ → Bool) → q o ≡ true → GoesDown rows q → (v : Value) → (is_eq (value_cmp v (Object m)) ≡ true) ⊎ (contains v found ≡ true) →
+      found_one : (q : ℕ → Bool) → ((n : ℕ) → p n ≡ true → q n ≡ true) → GoesDown rows q → (v : Value) → (is_eq (value_cmp v (Object m)) ≡ true) ⊎ (contains v found ≡ true) →
           IsObjectWith q v
       found_one q e down v (inl h) = (m, value_is v (Object m) h, mine q e down)
       found_one q e down v (inr h) = s.least q e down v h
 
-pub ends : (rows : List SetRow) (o : ℕ) (waiting : List ℕ) (found : List Value) → waiting ≡ [] → Searched rows o waiting found → IsFamily rows o found
-ends rows o waiting found none s = record {
-  first = ap (λ ns. has o ns || contains (Object o) found) (sym none) ∙ s.first;
-  down = λ p n h u. ap (λ ns. has n ns || contains (Object n) found) (sym none) ∙ s.down p n h u;
+pub ends : (rows : List SetRow) (p : ℕ → Bool) (waiting : List ℕ) (found : List Value) → waiting ≡ [] → Searched rows p waiting found →
+    AreFamilies rows p found
+ends rows p waiting found none s = record {
+  first = λ n e. ap (λ ns. has n ns || contains (Object n) found) (sym none) ∙ s.first n e;
+  down = λ m n h u. ap (λ ns. has n ns || contains (Object n) found) (sym none) ∙ s.down m n h u;
   least = s.least;
 }
 

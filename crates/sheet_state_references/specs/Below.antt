@@ -36,8 +36,8 @@ GoesDown rows q = (p n : ℕ) → q p ≡ true → stands_under rows p n ≡ tru
 abbrev pub IsObjectWith : (ℕ → Bool) → Value → Type 0
 IsObjectWith q v = (n : ℕ) × (v ≡ Object n) × (q n ≡ true)
 
--- the least set that holds an object and goes down
-pub record IsFamily (rows : List SetRow) (o : ℕ) (family : List Value) : Type 0 where
-  pub first : contains (Object o) family ≡ true
-  pub down : GoesDown rows (λ n. contains (Object n) family)
-  pub least : (q : ℕ → Bool) → q o ≡ true → GoesDown rows q → (v : Value) → contains v family ≡ true → IsObjectWith q v
+-- the least set that holds all objects with a property and goes down
+pub record AreFamilies (rows : List SetRow) (p : ℕ → Bool) (families : List Value) : Type 0 where
+  pub first : (n : ℕ) → p n ≡ true → contains (Object n) families ≡ true
+  pub down : GoesDown rows (λ n. contains (Object n) families)
+  pub least : (q : ℕ → Bool) → ((n : ℕ) → p n ≡ true → q n ≡ true) → GoesDown rows q → (v : Value) → contains v families ≡ true → IsObjectWith q v

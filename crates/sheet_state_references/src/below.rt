@@ -1,9 +1,9 @@
-// An object and all below it, by the rows of the extents.
+// Objects and all below them, by the rows of the extents.
 ghost use Rattle.std.specs.Prelude.{◌≡◌, ℕ, ◌<◌, ◌≤◌, ◌^◌, ◌||◌, length, true, take, OnOk, IfOk};
 ghost use Rattle.sheet_values.specs.Sets.{contains};
 ghost use Rattle.sheet_values.specs.declared.value.Value.TheVariants.{Object};
 ghost use Rattle.sheet_state_rows.specs.Rows.{set_row};
-ghost use Rattle.sheet_state_references.specs.Below.{NeverFalls, stands_under, Descends, has, IsFamily};
+ghost use Rattle.sheet_state_references.specs.Below.{NeverFalls, stands_under, Descends, has, AreFamilies};
 
 use sheet_state_rows::SetRow;
 use sheet_values::{NoMemory, Set, Value};
@@ -43,20 +43,23 @@ fn start_of(rows: &[SetRow], number: u128) -> usize
     low
 }
 
-/// An object and all below it. What stands under an object has a greater number, so the least waiting number is always next.
-pub fn family_of(alloc: Global, extents: &[SetRow], object: u64) -> Result<Set, NoMemory>
+/// Some objects and all below them. What stands under an object has a greater number, so the least waiting number is always next.
+pub fn families_of(
+    alloc: Global,
+    extents: &[SetRow],
+    starts: BTreeSet<u64>,
+) -> Result<Set, NoMemory>
     requires order { NeverFalls extents.now }
     requires descends { Descends extents.now }
-    ensures { IfOk result (λ family. IsFamily extents.now object family) }
+    ensures { IfOk result (λ families. AreFamilies extents.now (λ (n : ℕ). has n starts.keys) families) }
 {
-    let mut waiting = BTreeSet::new(alloc);
-    waiting.insert(object)?;
-    let mut family = Set::empty(alloc);
+    let mut waiting = starts;
+    let mut families = Set::empty(alloc);
     while let Some(number) = waiting.pop_first() {
-        family.insert(Value::Object(number))?;
+        families.insert(Value::Object(number))?;
         add_children(extents, number, &mut waiting)?;
     }
-    Ok(family)
+    Ok(families)
 }
 
 // Lets the objects directly below an object wait.

@@ -1,8 +1,8 @@
-//! What goes with an object: all that stands below it, and the state cells that may refer to it.
+//! What goes with objects: all that stands below them, and the state cells that may refer to them.
 #![tactic(auto)]
 
 mod below;
 mod references;
 
-pub use below::{family_of, own_places};
+pub use below::{families_of, own_places};
 pub use references::{Reference, References};

@@ -2,9 +2,10 @@
 ghost use Rattle.std.specs.Prelude.{◌≡◌, ◌≤◌, ◌<◌, length};
 ghost use Rattle.sheet_state.specs.Kept.{IsKept};
 
-use crate::{Model, Random, delete, make, refer};
+use crate::{Model, Random, delete, delete_all, make, refer};
 use sheet_columns::Columns;
 use sheet_state::{State, StateRefusal};
+use sheet_values::{NoMemory, Set, Value};
 use std::alloc::Global;
 
 const OBJECT_COLUMNS: [u32; 2] = [1, 3];
@@ -71,6 +72,36 @@ fn cut(
     Ok(())
 }
 
+// Three random numbers, of which some may be those of objects.
+fn three(alloc: Global, random: &mut Random, bound: u64) -> Result<Set, NoMemory>
+    requires { 0 < bound }
+{
+    let mut set = Set::empty(alloc);
+    for _ in 0..3 {
+        set.insert(Value::Object(random.below(bound)))?;
+    }
+    Ok(set)
+}
+
+// Takes some random objects away at once.
+fn cut_some(
+    alloc: Global,
+    columns: &Columns,
+    state: &mut State,
+    model: &mut Model,
+    random: &mut Random,
+) -> Result<(), StateRefusal>
+    requires { IsKept columns.now state.old }
+    ensures kept { IsKept columns.now state.new }
+    ensures longer { length state.old.earlier ≤ length state.new.earlier }
+{
+    let objects = three(alloc, random, model.next().saturating_add(1))?;
+    if delete_all(columns, state, &objects)? {
+        model.delete_all(alloc, &objects)?;
+    }
+    Ok(())
+}
+
 // One random change.
 fn change(
     alloc: Global,
@@ -83,9 +114,10 @@ fn change(
     ensures kept { IsKept columns.now state.new }
     ensures longer { length state.old.earlier ≤ length state.new.earlier }
 {
-    match random.below(8) {
+    match random.below(9) {
         0 => cut(alloc, columns, state, model, random),
-        1 | 2 | 3 => link(alloc, columns, state, model, random),
+        1 => cut_some(alloc, columns, state, model, random),
+        2 | 3 | 4 => link(alloc, columns, state, model, random),
         _ => grow(columns, state, model, random),
     }
 }

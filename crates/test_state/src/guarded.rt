@@ -112,3 +112,16 @@ pub fn delete(columns: &Columns, state: &mut State, object: u64) -> Result<bool,
     state.delete(columns, object)?;
     Ok(true)
 }
+
+/// Takes the objects of a set away, where the root is none of them; whether they went.
+pub fn delete_all(columns: &Columns, state: &mut State, objects: &Set) -> Result<bool, NoMemory>
+    requires { IsKept columns.now state.old }
+    ensures kept { IsKept columns.now state.new }
+    ensures longer { length state.old.earlier ≤ length state.new.earlier }
+{
+    if objects.contains(&Value::Object(0)) {
+        return Ok(false);
+    }
+    state.delete_all(columns, objects)?;
+    Ok(true)
+}

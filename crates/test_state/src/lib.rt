@@ -9,5 +9,8 @@ mod plain;
 
 pub use chance::Random;
 pub use exploring::explore;
-pub use guarded::{columns, delete, make, refer};
+pub use guarded::{columns, delete, delete_all, make, refer};
 pub use plain::Model;
+
+#[cfg(test)]
+mod tests;

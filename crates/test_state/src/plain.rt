@@ -87,6 +87,16 @@ impl Model {
         Ok(())
     }
 
+    /// The objects of a set are gone, each with all below it and what refers to them.
+    pub fn delete_all(&mut self, alloc: Global, objects: &Set) -> Result<(), NoMemory> {
+        for value in objects.as_slice() {
+            if let Value::Object(object) = value {
+                self.delete(alloc, *object)?;
+            }
+        }
+        Ok(())
+    }
+
     /// Whether a state tells the same of all objects up to the next, with these object and state columns.
     pub fn agrees(&self, state: &State, object_columns: &[u32], state_columns: &[u32]) -> bool {
         for number in 1..self.next {

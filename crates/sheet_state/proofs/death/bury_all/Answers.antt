@@ -1,10 +1,10 @@
-use Rattle.std.proofs.Common.{◌≡◌, ◌∙◌, sym, ap, subst, ◌-◌, ◌∷◌, arith, length, None, false}
+use Rattle.std.proofs.Common.{◌≡◌, ◌∙◌, sym, ap, subst, ◌-◌, ◌∷◌, arith, length, None, false, []}
 use Rattle.std.specs.Prelude.{slice_set, sum_by, map}
 use Rattle.std.specs.List.{flat_map}
 use Rattle.sheet_state_rows.specs.Rows.{Table, with_objects}
 use Rattle.sheet_state_rows.specs.declared.row.ObjectRow.{ObjectRow}
 use Rattle.sheet_state.specs.Births.{with_items}
-use Rattle.sheet_state.specs.Deaths.{buried, buried_items, lost_objects, lost_cells, object_row}
+use Rattle.sheet_state.specs.Deaths.{buried, lost_objects, lost_cells, object_row}
 use Rattle.sheet_state.proofs.Sweeping.{Visited, Totals, totals, with_row, all_told, turn, ends, each_above, none_waits, fits_rest, length_set, quiet_object}
 use Rattle.sheet_state.proofs.death.bury_all.Goals as goal
 
@@ -33,16 +33,15 @@ loop-place-preserved c =
     let fits = fits_rest (length xs) p c.loop-place.places.keys rest removal i.fits in
     let new = slice_set ys p (buried d (object_row ys p)) in
     let rows : c.bury.new.tables.present.objects ≡ new = ap (λ (v : Table). v.objects) b.present in
-    let start = totals c.args.items.now c.args.counters.objects c.args.counters.cells in
-    let before = totals c.loop-place.items c.loop-place.objects c.loop-place.cells in
-    let total : totals c.bury.new.items c.saturating_sub-objects.result c.saturating_sub-cells.result ≡ with_row (buried_items d) (lost_objects d)
+    let start = totals [] c.args.counters.objects c.args.counters.cells in
+    let before = totals [] c.loop-place.objects c.loop-place.cells in
+    let total : totals [] c.saturating_sub-objects.result c.saturating_sub-cells.result ≡ with_row (λ (r : ObjectRow). []) (lost_objects d)
     (lost_cells c.args.columns.now d) before (object_row ys p) =
-    ap (λ l. totals l c.saturating_sub-objects.result c.saturating_sub-cells.result) b.items
-    ∙ ap (λ n. totals (with_items c.loop-place.items (buried_items d (object_row ys p))) n c.saturating_sub-cells.result) (c.saturating_sub-objects.ensures
+    ap (λ n. totals [] n c.saturating_sub-cells.result) (c.saturating_sub-objects.ensures
     ∙ ap (λ n. c.loop-place.objects - n) b.objects)
-    ∙ ap (λ n. totals (with_items c.loop-place.items (buried_items d (object_row ys p))) (c.loop-place.objects - lost_objects d (object_row ys p)) n)
+    ∙ ap (λ n. totals [] (c.loop-place.objects - lost_objects d (object_row ys p)) n)
     (c.saturating_sub-cells.ensures ∙ ap (λ n. c.loop-place.cells - n) b.cells) in
-    let v = subst (Visited (buried d) (with_row (buried_items d) (lost_objects d) (lost_cells c.args.columns.now d)) (quiet_object c.args.columns.now d) xs ys
+    let v = subst (Visited (buried d) (with_row (λ (r : ObjectRow). []) (lost_objects d) (lost_cells c.args.columns.now d)) (quiet_object c.args.columns.now d) xs ys
     start before) removal i.visited in
     record {
       present = b.present ∙ ap (λ (v : Table). with_objects v new) i.present ∙ ap (with_objects t) (sym rows);
@@ -50,17 +49,17 @@ loop-place-preserved c =
       long = ap length rows ∙ length_set ys p (buried d (object_row ys p)) ∙ i.long;
       fits = fits.1;
       visited =
-          subst (λ ls. Visited (buried d) (with_row (buried_items d) (lost_objects d) (lost_cells c.args.columns.now d)) (quiet_object c.args.columns.now d) xs
-          ls start (totals c.bury.new.items c.saturating_sub-objects.result c.saturating_sub-cells.result) rest) (sym rows)
-          (subst (λ s. Visited (buried d) (with_row (buried_items d) (lost_objects d) (lost_cells c.args.columns.now d)) (quiet_object c.args.columns.now d) xs
+          subst (λ ls. Visited (buried d) (with_row (λ (r : ObjectRow). []) (lost_objects d) (lost_cells c.args.columns.now d)) (quiet_object c.args.columns.now d) xs
+          ls start (totals [] c.saturating_sub-objects.result c.saturating_sub-cells.result) rest) (sym rows)
+          (subst (λ s. Visited (buried d) (with_row (λ (r : ObjectRow). []) (lost_objects d) (lost_cells c.args.columns.now d)) (quiet_object c.args.columns.now d) xs
           new start s rest) (sym total)
-          (turn (buried d) (with_row (buried_items d) (lost_objects d) (lost_cells c.args.columns.now d)) (quiet_object c.args.columns.now d) xs ys start before
+          (turn (buried d) (with_row (λ (r : ObjectRow). []) (lost_objects d) (lost_cells c.args.columns.now d)) (quiet_object c.args.columns.now d) xs ys start before
           p rest none (each_above p rest c.in-Some.ensures.all_above) fits.0 v));
     }
 
 ended : (c : goal.In_default) →
-    (c.loop-place.tables.present.objects ≡ map (buried c.args.doomed.now) c.args.tables.now.present.objects) × (totals c.loop-place.items c.loop-place.objects
-    c.loop-place.cells ≡ totals (with_items c.args.items.now (flat_map (buried_items c.args.doomed.now) c.args.tables.now.present.objects))
+    (c.loop-place.tables.present.objects ≡ map (buried c.args.doomed.now) c.args.tables.now.present.objects) × (totals [] c.loop-place.objects
+    c.loop-place.cells ≡ totals (with_items [] (flat_map (λ (r : ObjectRow). []) c.args.tables.now.present.objects))
     (c.args.counters.objects - sum_by (lost_objects c.args.doomed.now) c.args.tables.now.present.objects)
     (c.args.counters.cells - sum_by (lost_cells c.args.columns.now c.args.doomed.now) c.args.tables.now.present.objects))
 ended c =
@@ -68,18 +67,15 @@ ended c =
     let xs = c.args.tables.now.present.objects in
     let i = c.loop-place.invariant in
     let nil = none_waits c.loop-place.places.keys (λ lt. let some = c.in_default.ensures.variant.1 lt in cc) in
-    let start = totals c.args.items.now c.args.counters.objects c.args.counters.cells in
-    let v = subst (Visited (buried d) (with_row (buried_items d) (lost_objects d) (lost_cells c.args.columns.now d)) (quiet_object c.args.columns.now d) xs
-    c.loop-place.tables.present.objects start (totals c.loop-place.items c.loop-place.objects c.loop-place.cells)) nil i.visited in
-    let e = ends (buried d) (with_row (buried_items d) (lost_objects d) (lost_cells c.args.columns.now d)) (quiet_object c.args.columns.now d) xs
-    c.loop-place.tables.present.objects start (totals c.loop-place.items c.loop-place.objects c.loop-place.cells) none v in
-    (e.0, e.1 ∙ all_told (buried_items d) (lost_objects d) (lost_cells c.args.columns.now d) xs c.args.items.now c.args.counters.objects c.args.counters.cells)
+    let start = totals [] c.args.counters.objects c.args.counters.cells in
+    let v = subst (Visited (buried d) (with_row (λ (r : ObjectRow). []) (lost_objects d) (lost_cells c.args.columns.now d)) (quiet_object c.args.columns.now d) xs
+    c.loop-place.tables.present.objects start (totals [] c.loop-place.objects c.loop-place.cells)) nil i.visited in
+    let e = ends (buried d) (with_row (λ (r : ObjectRow). []) (lost_objects d) (lost_cells c.args.columns.now d)) (quiet_object c.args.columns.now d) xs
+    c.loop-place.tables.present.objects start (totals [] c.loop-place.objects c.loop-place.cells) none v in
+    (e.0, e.1 ∙ all_told (λ (r : ObjectRow). []) (lost_objects d) (lost_cells c.args.columns.now d) xs [] c.args.counters.objects c.args.counters.cells)
 
 pub returns-clause-present : goal.returns-clause-present
 returns-clause-present c = c.loop-place.invariant.present ∙ ap (with_objects c.args.tables.now.present) (ended c).0
-
-pub returns-clause-items : goal.returns-clause-items
-returns-clause-items c = ap (λ (s : Totals). s.items) (ended c).1
 
 pub returns-clause-objects : goal.returns-clause-objects
 returns-clause-objects c = ap (λ (s : Totals). s.first) (ended c).1

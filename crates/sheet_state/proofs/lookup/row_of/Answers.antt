@@ -3,7 +3,7 @@ use Rattle.std.specs.Prelude.{if◌then◌else◌, ◌==◌}
 use Rattle.sheet_meaning.proofs.Members.{both_true}
 use Rattle.sheet_state.specs.Rows.{is_object, object_of, live_object}
 use Rattle.sheet_state.proofs.Lookups.{first_at, none_at, first_read, first_passes, object_found, object_missing}
-use Rattle.sheet_state.proofs.state.row_of.Goals as goal
+use Rattle.sheet_state.proofs.lookup.row_of.Goals as goal
 
 pub returns-in-Some : goal.returns-in-Some
 returns-in-Some c =

@@ -1,0 +1,9 @@
+use Rattle.std.proofs.Common.{◌≡◌, take}
+use Rattle.std.specs.List.{flat_map}
+use Rattle.sheet_state.specs.Births.{with_items}
+use Rattle.sheet_state.specs.Deaths.{live_items}
+use Rattle.sheet_state.specs.Rows.{objects_in}
+use Rattle.sheet_state.proofs.death.add_lives.Given as goal
+
+abbrev pub invariant-loop-value : goal.invariant-loop-value
+invariant-loop-value l = l.items ≡ with_items l.fn.items (flat_map (live_items (objects_in l.rows)) (take l.value-index l.value-items))
