@@ -33,7 +33,7 @@ use Rattle.sheet_state.specs.Kept.{schema_of, book, as_formula, as_extent, objec
 use Rattle.sheet_state.specs.Rows.{cells_in, objects_in, object_of, row_cmp}
 use Rattle.sheet_state.proofs.WithSet.{all_mono}
 use Rattle.sheet_state.proofs.WithObject.{all_both}
-use Rattle.sheet_state.proofs.Newborn.{set_front, newborn, column_cmp}
+use Rattle.sheet_state.proofs.Newborn.{newborn, column_cmp}
 
 -- what the columns under a column give comes in the order of their numbers
 module _ {A : Type 0} (f : ℕ → Column → Option A) (number : A → ℕ) (numbered : (k : ℕ) (c : Column) (a : A) → f k c ≡ Some a → number a ≡ k) (c : ℕ) where

@@ -1,6 +1,6 @@
 -- Some objects of a set that are live, and all below them, by the rows.
-use Rattle.std.proofs.Common.{◌≡◌, refl, sym, ap, ◌∙◌, ℕ, ◌+◌, ◌<◌, ◌^◌, zero, suc, Bool, true, false, List, [], ◌∷◌, arith, Option, Some, None, inl, inr}
-use Rattle.std.specs.Prelude.{not, nat_lt, ◌==◌, ◌&&◌, ◌||◌, is_some}
+use Rattle.std.proofs.Common.{◌≡◌, refl, sym, ap, ◌∙◌, ℕ, ◌<◌, zero, suc, Bool, true, false, List, [], ◌∷◌, arith, Option, Some, None, inl, inr}
+use Rattle.std.specs.Prelude.{not, nat_lt, ◌&&◌, ◌||◌, is_some}
 use Rattle.std.specs.List.{filter_map, AllByRecursion}
 use Rattle.std.specs.Ordering.{is_eq, nat_cmp}
 use Rattle.std.proofs.lemmas.Bool.{lt-ltb, ltb-true}
@@ -137,8 +137,8 @@ module _ (nodes : List Node) (t : Table) (sound : IsSound t) (m : IsMoment nodes
   known = record { holds = holds }
     where
       none : (v : Value) → ((n : ℕ) → v ≡ Object n → ⊥) → (b : Bool) → contains v d ≡ b → contains v d ≡ false
-      none v no true e = let w = only v e in absurd (no w.0 w.1)
-      none v no false e = e
+      none v other true e = let w = only v e in absurd (other w.0 w.1)
+      none v other false e = e
 
       twice : (b : Bool) → b ≡ not (not b)
       twice true = refl

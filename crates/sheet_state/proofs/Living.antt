@@ -1,9 +1,8 @@
 -- The live objects of a set, one after another.
-use Rattle.std.proofs.Common.{◌≡◌, refl, sym, ap, ◌∙◌, ℕ, Bool, true, false, cond, List, [], ◌∷◌, Option, Some, None}
+use Rattle.std.proofs.Common.{◌≡◌, refl, sym, ap, ◌∙◌, ℕ, Bool, true, false, cond, List, Option, Some, None}
 use Rattle.std.specs.Prelude.{◌&&◌, ◌||◌, is_some, option_map}
 use Rattle.std.specs.Ordering.{is_eq, nat_cmp}
 use Rattle.std.proofs.lemmas.Bool.{eqb-true}
-use Rattle.sheet_values.specs.Order.{value_cmp}
 use Rattle.sheet_values.specs.declared.value.Value.{Value}
 use Rattle.sheet_values.specs.declared.value.Value.TheVariants.{Object}
 use Rattle.sheet_state_rows.specs.declared.row.ObjectRow.{ObjectRow}

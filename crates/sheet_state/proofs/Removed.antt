@@ -202,7 +202,7 @@ always : {A : Type 0} (P : A → Type 0) → ((x : A) → P x) → (xs : List A)
 always P h [] = tt
 always P h (x ∷ xs) = (h x, always P h xs)
 
-some_is : {A : Type 0} (o : Option A) → is_some o ≡ true → (x : A) × (o ≡ Some x)
+pub some_is : {A : Type 0} (o : Option A) → is_some o ≡ true → (x : A) × (o ≡ Some x)
 some_is None e = cc
 some_is (Some x) e = (x, refl)
 

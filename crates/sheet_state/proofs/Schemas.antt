@@ -5,7 +5,7 @@ use Rattle.std.specs.List.{filter_map, flat_map, cons_option, enumerate_from}
 use Rattle.sheet_columns.specs.Tree.{above_of, is_number}
 use Rattle.sheet_columns.specs.declared.tree.Node.{Node}
 use Rattle.sheet_meaning.specs.Workbook.{FormulaCell, formula_cell, cells_of, formula_cells}
-use Rattle.sheet_meaning.specs.WellFormed.{as_formula, all_formula_columns, formula_numbers, HasFormulas, IsWellFormed, cell_count, state_cells, stored_values}
+use Rattle.sheet_meaning.specs.WellFormed.{as_formula, formula_numbers, HasFormulas, IsWellFormed, cell_count, state_cells, stored_values}
 use Rattle.sheet_meaning.specs.declared.workbook.ColumnFormula.{ColumnFormula}
 use Rattle.sheet_meaning.specs.declared.workbook.LiveObject.{LiveObject}
 use Rattle.sheet_meaning.specs.declared.workbook.Schema.{Schema}

@@ -4,7 +4,7 @@ use Rattle.std.specs.Prelude.{◌==◌, ◌&&◌, map}
 use Rattle.std.specs.List.{AllByRecursion}
 use Rattle.std.proofs.lemmas.List.{append-nil, length-map}
 use Rattle.sheet_values.specs.declared.value.Value.TheVariants.{Object}
-use Rattle.sheet_columns.specs.Tree.{column_of, IsTree}
+use Rattle.sheet_columns.specs.Tree.{IsTree}
 use Rattle.sheet_columns.specs.declared.tree.Node.{Node}
 use Rattle.sheet_state_rows.specs.Rows.{Table}
 use Rattle.sheet_state_rows.specs.declared.row.Counters.{Counters}
@@ -13,7 +13,7 @@ use Rattle.sheet_state_rows.specs.declared.row.SetRow.{SetRow}
 use Rattle.sheet_meaning.specs.Start.{start_state}
 use Rattle.sheet_meaning.specs.Workbook.{set_in, children_in, cells_of}
 use Rattle.sheet_meaning.proofs.Starting.{starts_are_well_formed}
-use Rattle.sheet_meaning.specs.WellFormed.{StateColumn, state_columns, stored_values, cell_count, HoldsKind, IsWellFormed}
+use Rattle.sheet_meaning.specs.WellFormed.{StateColumn, state_columns, stored_values, cell_count, IsWellFormed}
 use Rattle.sheet_meaning.specs.declared.workbook.LiveObject.{LiveObject}
 use Rattle.sheet_meaning.specs.declared.workbook.StoredCell.{StoredCell}
 use Rattle.sheet_meaning.specs.declared.workbook.State.{State}

@@ -1,10 +1,10 @@
 -- The items that a deletion changes.
-use Rattle.std.proofs.Common.{◌≡◌, refl, sym, ap, ◌∙◌, subst, ℕ, ◌-◌, ◌<◌, ◌≤◌, suc, Bool, true, false, cond, List, [], ◌∷◌, ◌++◌, length, arith, Option, Some}
+use Rattle.std.proofs.Common.{◌≡◌, refl, sym, ap, ◌∙◌, subst, ℕ, ◌-◌, ◌≤◌, suc, Bool, true, false, cond, List, [], ◌∷◌, ◌++◌, length, arith, Option, Some}
 use Rattle.std.proofs.Common.{None, eq-eqb, inl, inr}
 use Rattle.std.specs.Prelude.{not, nat_lt, ◌==◌, ◌&&◌, ◌||◌, if◌then◌else◌, map, filter, is_some}
 use Rattle.std.specs.List.{flat_map, cons_option, list_any}
 use Rattle.std.specs.Ordering.{is_eq}
-use Rattle.std.proofs.lemmas.Bool.{eqb-true, lt-ltb, le-ltb, cases_lt}
+use Rattle.std.proofs.lemmas.Bool.{lt-ltb, le-ltb, cases_lt}
 use Rattle.std.proofs.lemmas.List.{nil_from_length}
 use Rattle.std.proofs.lemmas.List.Folds.{list_any-append}
 use Rattle.sheet_values.specs.Sorted.{IsBelow, IsRising, contains as holds}
@@ -16,7 +16,6 @@ use Rattle.sheet_columns.specs.declared.item.Item.{Item}
 use Rattle.sheet_columns.specs.declared.item.Item.TheVariants.{Live, Up, Extent, Stored}
 use Rattle.sheet_columns.specs.declared.tree.Node.{Node}
 use Rattle.sheet_state_rows.specs.Rows.{Table}
-use Rattle.sheet_state_rows.specs.declared.row.ObjectRow.{ObjectRow}
 use Rattle.sheet_state_rows.specs.declared.row.SetRow.{SetRow}
 use Rattle.sheet_meaning.specs.Changes.{has_number, without}
 use Rattle.sheet_meaning.specs.Formula.{sets_equal}
@@ -28,16 +27,15 @@ use Rattle.sheet_meaning.specs.declared.workbook.State.{State}
 use Rattle.sheet_state.specs.Births.{with_items}
 use Rattle.sheet_state.specs.Deaths.{live_items, up_items, swept, swept_items, lost, rid_items}
 use Rattle.sheet_state.specs.Kept.{IsMoment, AreChanged}
-use Rattle.sheet_state.specs.Rows.{live_object, live_cell, object_cmp, object_of, objects_in, cells_in, state_of, moment, row_cmp, is_set, IsSound}
+use Rattle.sheet_state.specs.Rows.{live_cell, objects_in, cells_in, state_of, moment, row_cmp, is_set, IsSound}
 use Rattle.sheet_state.proofs.Family.{Knows, knows_number}
 use Rattle.sheet_state.proofs.Itemized.{live_told, up_told, no_lives, no_ups}
 use Rattle.sheet_state.proofs.Lookups.{set_first, set_skip}
 use Rattle.sheet_state.proofs.Newborn.{not_item, has_items}
 use Rattle.sheet_state.proofs.SetRows.{at, apart, passes, key_is}
 use Rattle.sheet_state.proofs.Rid.{MayGo, state_rid, children_rid}
-use Rattle.sheet_state.proofs.Without.{found_left, differs, filter_short}
-use Rattle.sheet_state.proofs.WithSet.{item_is, item_itself, numbers_same, sets_are, sets_same}
-use Rattle.sheet_state_references.proofs.Searched.{nat_less}
+use Rattle.sheet_state.proofs.Without.{found_left, filter_short}
+use Rattle.sheet_state.proofs.WithSet.{item_itself, numbers_same, sets_are, sets_same}
 
 abbrev among : Item → List Item → Bool
 among x ys = list_any (λ y. is_eq (item_cmp x y)) ys

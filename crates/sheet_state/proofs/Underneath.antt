@@ -1,6 +1,6 @@
 -- What stands under an object, by the rows of the extents and by the objects themselves.
 use Rattle.std.proofs.Common.{◌≡◌, refl, sym, ap, ◌∙◌, subst, ℕ, ◌<◌, ◌≤◌, zero, suc, Bool, true, false, cond, List, [], ◌∷◌, length, get_or, arith, Option}
-use Rattle.std.proofs.Common.{Some, None, eq-eqb, ◌⊎◌, inl, inr}
+use Rattle.std.proofs.Common.{Some, None, eq-eqb, inl, inr}
 use Rattle.std.specs.Prelude.{position, map, filter, ◌==◌, ◌&&◌, ◌||◌, if◌then◌else◌}
 use Rattle.std.specs.List.{list_any, AllByRecursion}
 use Rattle.std.specs.declared.cmp.Ordering.{Ordering}

@@ -1,8 +1,7 @@
 -- A workbook with an object more.
-use Rattle.std.proofs.Common.{◌≡◌, refl, sym, ap, ◌∙◌, subst, ℕ, ◌+◌, ◌<◌, ◌≤◌, suc, Bool, true, false, List, [], ◌∷◌, ◌++◌, length, arith, Option, Some, None}
-use Rattle.std.proofs.Common.{inl, inr, ⊎_elim}
-use Rattle.std.specs.Prelude.{◌==◌, if◌then◌else◌, map, IsSome, nat_lt, slice_get, option_map}
-use Rattle.std.specs.List.{enumerate_from, AllByRecursion}
+use Rattle.std.proofs.Common.{◌≡◌, refl, sym, ap, ◌∙◌, subst, ℕ, ◌+◌, ◌<◌, ◌≤◌, true, false, List, [], ◌∷◌, ◌++◌, length, arith, Option, Some, None}
+use Rattle.std.specs.Prelude.{◌==◌, if◌then◌else◌, map, IsSome, nat_lt}
+use Rattle.std.specs.List.{AllByRecursion}
 use Rattle.std.specs.declared.cmp.Ordering.{Ordering}
 use Rattle.std.specs.declared.cmp.Ordering.TheVariants.{Less}
 use Rattle.std.specs.Ordering.{nat_cmp, on}
@@ -11,17 +10,12 @@ use Rattle.std.proofs.lemmas.Bool.{eqb-true, ltb-false}
 use Rattle.std.proofs.lemmas.List.{map-append, append-nil}
 use Rattle.std.proofs.lemmas.Grind.{flat_map-append}
 use Rattle.sheet_values.specs.Sorted.{IsBelow, IsRising}
-use Rattle.sheet_values.specs.declared.value.Kind.{Kind}
-use Rattle.sheet_values.specs.declared.value.Kind.TheVariants as kind
-use Rattle.sheet_values.specs.declared.value.Value.{Value}
-use Rattle.sheet_values.specs.declared.value.Value.TheVariants.{Truth, Number, Text}
-use Rattle.sheet_columns.specs.Tree.{column_of, above_of, is_number, IsOfKind, HasFittingFirst, IsTree}
-use Rattle.sheet_columns.specs.declared.tree.Column.{Column}
+use Rattle.sheet_columns.specs.Tree.{column_of, above_of, IsTree}
 use Rattle.sheet_columns.specs.declared.tree.Column.TheVariants as column
 use Rattle.sheet_columns.specs.declared.tree.Node.{Node}
 use Rattle.sheet_meaning.specs.Changes.{with_object, first_set}
 use Rattle.sheet_meaning.specs.Workbook.{object_at, column_in}
-use Rattle.sheet_meaning.specs.WellFormed.{StateColumn, as_state, state_columns, state_cells, IsUnder, HasKind, HoldsKind, IsWellFormed, stored_values}
+use Rattle.sheet_meaning.specs.WellFormed.{StateColumn, state_columns, state_cells, IsUnder, HoldsKind, IsWellFormed, stored_values}
 use Rattle.sheet_meaning.specs.WellFormed.{cell_count, max_objects, max_cells, max_values, max_number}
 use Rattle.sheet_meaning.specs.declared.refusal.Which.{Which}
 use Rattle.sheet_meaning.specs.declared.workbook.LiveObject.{LiveObject}

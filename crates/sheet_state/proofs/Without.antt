@@ -1,13 +1,12 @@
 -- A workbook without an object and all below it.
 use Rattle.std.proofs.Common.{◌≡◌, refl, sym, ap, ◌∙◌, ℕ, ◌+◌, ◌<◌, ◌≤◌, suc, Bool, true, false, cond, List, [], ◌∷◌, ◌++◌, length, arith, Option, Some, None}
-use Rattle.std.proofs.Common.{eq-eqb, inl, inr, length-append}
+use Rattle.std.proofs.Common.{eq-eqb, length-append}
 use Rattle.std.specs.Prelude.{not, ◌==◌, ◌||◌, if◌then◌else◌, map, filter, fold, sum_by}
 use Rattle.std.specs.List.{flat_map, AllByRecursion}
 use Rattle.std.specs.declared.cmp.Ordering.{Ordering}
-use Rattle.std.specs.declared.cmp.Ordering.TheVariants.{Less, Equal, Greater}
 use Rattle.std.specs.Ordering.{nat_cmp, on}
-use Rattle.std.specs.Cmp.{nat_cmp_is, nat_cmp_total, on_total}
-use Rattle.std.proofs.lemmas.Bool.{eqb-true, cases_lt}
+use Rattle.std.specs.Cmp.{nat_cmp_total, on_total}
+use Rattle.std.proofs.lemmas.Bool.{eqb-true}
 use Rattle.std.proofs.lemmas.List.{length-map}
 use Rattle.std.proofs.lemmas.List.Sums.{sum_by-cons}
 use Rattle.sheet_values.specs.Sorted.{IsBelow, IsRising}

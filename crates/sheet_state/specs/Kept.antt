@@ -1,5 +1,5 @@
 -- What is kept of a workbook.
-use Rattle.std.specs.Prelude.{◌≡◌, ℕ, List, [], ◌∷◌, map, Option, Some, None, if◌then◌else◌, true}
+use Rattle.std.specs.Prelude.{◌≡◌, ℕ, List, map, Option, Some, None, if◌then◌else◌, true}
 use Rattle.std.specs.List.{filter_map, flat_map, enumerate_from, AllByRecursion}
 use Rattle.sheet_values.specs.Sorted.{contains}
 use Rattle.sheet_columns.specs.ItemOrder.{item_cmp}

@@ -1,5 +1,5 @@
 -- Workbooks of the same columns, with other formulas.
-use Rattle.std.specs.Prelude.{◌≡◌, ◌↔◌, ℕ, List, map, is_some}
+use Rattle.std.specs.Prelude.{◌≡◌, ◌↔◌, ℕ, List, is_some}
 use Rattle.sheet_columns.specs.declared.tree.Node.{Node}
 use Rattle.sheet_meaning.specs.Changes.{with_object}
 use Rattle.sheet_meaning.specs.Formula.{World}
@@ -7,7 +7,6 @@ use Rattle.sheet_meaning.specs.Workbook.{object_at, column_in, parent_in, childr
 use Rattle.sheet_meaning.specs.WellFormed.{HasFormulas, IsWellFormed, cell_count}
 use Rattle.sheet_meaning.specs.Run.{Outcome}
 use Rattle.sheet_values.specs.declared.value.Value.{Value}
-use Rattle.sheet_meaning.specs.declared.workbook.ColumnFormula.{ColumnFormula}
 use Rattle.sheet_meaning.specs.declared.workbook.Schema.{Schema}
 use Rattle.sheet_meaning.specs.declared.workbook.State.{State}
 use Rattle.sheet_meaning.specs.declared.workbook.Workbook.{Workbook}

@@ -56,7 +56,7 @@ places_of-requires-clause-small c =
 made : (c : goal.After-drop-doomed-inside-2) → c.take_away.new.tables.present ≡ rid_of c.args.columns.now c.in_ok-doomed.doomed c.self.inside.tables.present
 made c = c.in_ok-items.ensures.present
 
-ns : (c : goal.After-drop-doomed-inside-2) → List ℕ
+abbrev ns : (c : goal.After-drop-doomed-inside-2) → List ℕ
 ns c = filter_map object_in c.in_ok-doomed.doomed
 
 goes : (c : goal.After-drop-doomed-inside-2) → MayGo c.self.inside.tables.present c.in_ok-doomed.doomed (ns c)
