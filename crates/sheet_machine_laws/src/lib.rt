@@ -1,0 +1,6 @@
+//! The abstract machine: what is held, what a request comes to, steps and runs. Definitions and laws, no program.
+#![tactic(auto)]
+
+mod law;
+
+pub use law::{only_accepted_change, worked_numbers};
