@@ -1,9 +1,7 @@
 pub mod AnswerLemmas
 pub mod Equality
 pub mod FormLemmas
-pub mod KeyLemmas
 pub mod PartLemmas
 pub mod Picking
 pub mod Reading
 pub mod TotalLemmas
-pub mod Unions

@@ -10,7 +10,7 @@ use Rattle.sheet_meaning.specs.Run.{Outcome, after, both_outcomes, run_after, al
 use Rattle.sheet_meaning.specs.Formula.{gathered, joined, single}
 use Rattle.sheet_meaning.specs.Support.{Cell, with_cell, with_cells}
 use Rattle.sheet_eval.specs.Told.{Noted, note, noted, Came, Folds}
-use Rattle.sheet_eval.proofs.Picking.{cut_at}
+use Rattle.sheet_eval_sets.proofs.Cutting.{cut_at}
 
 -- what holds of an answer that is Ok
 pub if_ok : {A E : Type 0} (r : Result A E) (P Q : A → Type 0) → ((a : A) → P a → Q a) → IfOk r P → IfOk r Q
@@ -187,12 +187,6 @@ module _ {A B : Type 0} (g : B → A → B) where
     outcome = e ∙ ap (λ p. after (both_outcomes so_far p) (λ x. Ok (fold g x.0 x.1))) c.outcome;
     uses = c.uses;
   }
-
--- the cells of a list, from a place on
-pub cells_more : (all cells : List Cell) (k : ℕ) {whole next : List Cell} {x : Cell} → slice_get cells k ≡ Some x → with_cells all (drop k cells) ≡ whole
-    → next ≡ with_cell all x → with_cells next (drop (k + 1) cells) ≡ whole
-cells_more all cells k {whole} {next} {x} at h e =
-    ap (λ a. with_cells a (drop (k + 1) cells)) e ∙ ap (with_cells all) (sym (cut_at cells k x at)) ∙ h
 
 filter_front : (p : Cell → Bool) (x : Cell) (xs : List Cell) → filter p (x ∷ xs) ≡ filter p (x ∷ []) ++ filter p xs
 filter_front p x xs = elim (p x) as (λ b. cond b (x ∷ filter p xs) (filter p xs) ≡ cond b (x ∷ []) [] ++ filter p xs) [ true ↦ refl | false ↦ refl ]

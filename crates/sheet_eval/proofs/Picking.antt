@@ -1,5 +1,5 @@
 -- The one value of a kind among some.
-use Rattle.std.proofs.Common.{◌≡◌, sym, ap, ◌∙◌, ℕ, suc, ◌+◌, true, false, List, [], ◌∷◌, ◌++◌, zero, drop, arith, Option, Some, None}
+use Rattle.std.proofs.Common.{◌≡◌, sym, ap, ◌∙◌, ℕ, ◌+◌, true, false, List, ◌∷◌, ◌++◌, drop, Option, Some, None}
 use Rattle.std.specs.Prelude.{slice_get, is_some, Err}
 use Rattle.std.specs.List.{filter_map, cons_option}
 use Rattle.std.specs.Option.{option_to_list}
@@ -8,15 +8,7 @@ use Rattle.sheet_values.specs.declared.value.NotOne.TheVariants.{Many}
 use Rattle.sheet_columns.specs.declared.fault.Fault.TheVariants as fault
 use Rattle.sheet_columns.specs.declared.fault.Place.{Place}
 use Rattle.sheet_meaning.specs.Run.{the_one}
-
-drop_at : {X : Type 0} (xs : List X) (j : ℕ) (x : X) → slice_get xs j ≡ Some x → drop j xs ≡ x ∷ drop (suc j) xs
-drop_at [] zero x e = cc
-drop_at [] (suc j) x e = cc
-drop_at (y ∷ xs) zero x e = let same : y ≡ x = cc in ap (λ v. v ∷ xs) same
-drop_at (y ∷ xs) (suc j) x e = drop_at xs j x e
-
-pub cut_at : {X : Type 0} (s : List X) (k : ℕ) (v : X) → slice_get s k ≡ Some v → drop k s ≡ v ∷ drop (k + 1) s
-cut_at s k v e = let one : suc k ≡ k + 1 = omega arith in drop_at s k v e ∙ ap (λ j. v ∷ drop j s) one
+use Rattle.sheet_eval_sets.proofs.Cutting.{cut_at}
 
 module _ {A : Type 0} (f : Value → Option A) (s : List Value) (k : ℕ) (v : Value) (at : slice_get s k ≡ Some v) where
   picked_one : (o : Option A) → f v ≡ o → filter_map f (drop k s) ≡ cons_option o (filter_map f (drop (k + 1) s))

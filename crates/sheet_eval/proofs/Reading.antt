@@ -1,7 +1,8 @@
 -- Reading a variable.
-use Rattle.std.proofs.Common.{◌≡◌, refl, sym, ap, ◌∙◌, subst, ℕ, zero, suc, ◌+◌, ◌-◌, ◌≤◌, Bool, true, false, List, [], ◌∷◌, ◌++◌, length, drop, arith}
-use Rattle.std.proofs.Common.{append_assoc, append-nil, Some}
-use Rattle.std.specs.Prelude.{slice_get, slice_index_or, filter, cond, if◌then◌else◌}
+use Rattle.std.proofs.Common.{◌≡◌, refl, sym, ap, ◌∙◌, subst, ℕ, zero, suc, ◌-◌, ◌≤◌, Bool, true, false, List, [], ◌∷◌, ◌++◌, length, arith}
+use Rattle.std.proofs.Common.{append_assoc, Some}
+use Rattle.std.specs.Prelude.{slice_get, slice_index_or, filter, cond, if◌then◌else◌, ◌&&◌}
+use Rattle.std.specs.List.{list_all}
 use Rattle.sheet_values.specs.declared.value.Value.{Value}
 use Rattle.sheet_values.specs.declared.value.Value.TheVariants as value
 use Rattle.sheet_values.specs.Sets.{IsRising, insert}
@@ -16,7 +17,6 @@ use Rattle.std.specs.Cmp.{IsTotalOrder}
 use Rattle.sheet_values.specs.Sorted.{IsBelow, IsRising as rising, by_order, insert as insert_in}
 use Rattle.sheet_meaning.specs.Formula.{World, is_read, live_reads, variable_read}
 use Rattle.sheet_eval.specs.Told.{Noted, noted, Came}
-use Rattle.sheet_eval.proofs.Picking.{cut_at}
 use Rattle.sheet_eval.proofs.PartLemmas.{noted_more}
 
 live_reads_more : (v : Value) (rest : List Value) → live_reads (v ∷ rest) ≡ live_reads (v ∷ []) ++ live_reads rest
@@ -37,50 +37,44 @@ module _ {A : Type 0} (cmp : A → A → Ordering) (total : IsTotalOrder cmp) wh
       let above : cmp v x ≡ Greater = total.antisymm v x ∙ ap ordering_reverse (below_middle x xs v rest r.0) in
       ap (λ o. by_order o (v ∷ x ∷ xs) (x ∷ xs) (x ∷ insert_in cmp v xs)) above ∙ ap (λ l. x ∷ l) (above_all xs v rest r.1)
 
--- what the first k values of a variable gave
-pub record ReadOn (w : World) (s : List Value) (old : Noted) (read : List Value) (new : Noted) (k : ℕ) : Type 0 where
-  pub values : filter (is_read w) s ≡ read ++ filter (is_read w) (drop k s)
-  pub uses : noted old (live_reads s) ≡ noted new (live_reads (drop k s))
+-- one value of a set noted, and then those behind it
+pub note_more : (n : Noted) (v : Value) (rest : List Value) {new : Noted} → new ≡ noted n (live_reads (v ∷ []))
+    → noted new (live_reads rest) ≡ noted n (live_reads (v ∷ rest))
+note_more n v rest e =
+    ap (λ m. noted m (live_reads rest)) e
+    ∙ sym (noted_more n (live_reads (v ∷ [])) (live_reads rest))
+    ∙ ap (noted n) (sym (live_reads_more v rest))
 
-drop_past : (xs : List Value) (k : ℕ) → length xs ≤ k → drop k xs ≡ []
-drop_past [] zero le = refl
-drop_past [] (suc k) le = refl
-drop_past (x ∷ xs) zero le = absurd (omega arith)
-drop_past (x ∷ xs) (suc k) le = drop_past xs k (omega arith)
+-- a set of which all values are read is what is read of it
+all_kept : (p : Value → Bool) (s : List Value) → list_all p s ≡ true → filter p s ≡ s
+all_kept p [] e = refl
+all_kept p (v ∷ s) e =
+    elim (p v) as (λ b. p v ≡ b → (b && list_all p s) ≡ true → cond b (v ∷ filter p s) (filter p s) ≡ v ∷ s) [
+      | true ↦ λ _ h. ap (λ l. v ∷ l) (all_kept p s h)
+      | false ↦ λ _ h. cc
+    ] refl e
 
-module _ (w : World) (s : List Value) (old : Noted) where
-  pub read_none : ReadOn w s old [] old 0
-  read_none = record { values = refl; uses = refl }
+one_read : (read : List Value) (v : Value) (rest : List Value) (b : Bool) → IsRising (read ++ cond b (v ∷ rest) rest)
+    → (if b then insert v read else read) ++ rest ≡ read ++ cond b (v ∷ rest) rest
+one_read read v rest true r = ap (λ l. l ++ rest) (above_all value_cmp value_total read v rest r) ∙ append_assoc read (v ∷ []) rest
+one_read read v rest false r = refl
 
-  one_read : (read : List Value) (v : Value) (rest : List Value) (b : Bool) → IsRising (read ++ cond b (v ∷ rest) rest)
-      → read ++ cond b (v ∷ rest) rest ≡ (if b then insert v read else read) ++ rest
-  one_read read v rest true r = sym (append_assoc read (v ∷ []) rest) ∙ ap (λ l. l ++ rest) (sym (above_all value_cmp value_total read v rest r))
-  one_read read v rest false r = refl
+-- the values that are read of the front of a set, and one more
+pub read_more : (p : Value → Bool) (s read rest : List Value) (v : Value) {next : List Value} → IsRising s → read ++ filter p (v ∷ rest) ≡ filter p s
+    → next ≡ (if p v then insert v read else read) → next ++ filter p rest ≡ filter p s
+read_more p s read rest v rising h e =
+    ap (λ l. l ++ filter p rest) e
+    ∙ one_read read v (filter p rest) (p v) (subst IsRising (sym h) (filter_rising value_cmp value_total p s rising))
+    ∙ h
 
-  pub read_more : {read : List Value} {uses : Noted} {k : ℕ} {v : Value} {next : List Value} {new : Noted} → IsRising s → slice_get s k ≡ Some v
-      → ReadOn w s old read uses k → next ≡ (if is_read w v then insert v read else read) → new ≡ noted uses (live_reads (v ∷ []))
-      → ReadOn w s old next new (k + 1)
-  read_more {read} {uses} {k} {v} {next} {new} rising at r e f =
-      let rest = drop (k + 1) s in
-      let all = r.values ∙ ap (λ l. read ++ filter (is_read w) l) (cut_at s k v at) in
-      record {
-        values =
-            all
-            ∙ one_read read v (filter (is_read w) rest) (is_read w v) (subst IsRising all (filter_rising value_cmp value_total (is_read w) s rising))
-            ∙ ap (λ l. l ++ filter (is_read w) rest) (sym e);
-        uses =
-            r.uses
-            ∙ ap (λ l. noted uses (live_reads l)) (cut_at s k v at)
-            ∙ ap (noted uses) (live_reads_more v rest)
-            ∙ noted_more uses (live_reads (v ∷ [])) (live_reads rest)
-            ∙ ap (λ n. noted n (live_reads rest)) (sym f);
-      }
+-- a variable whose values are noted, and copied or lent
+pub read_came : (w : World) (s read : List Value) (old new : Noted) → read ≡ filter (is_read w) s → new ≡ noted old (live_reads s)
+    → Came (variable_read w s) old (Ok read) new
+read_came w s read old new e f = record { outcome = ap Ok e; uses = f }
 
-  pub read_end : {read : List Value} {uses : Noted} {k : ℕ} → length s ≤ k → ReadOn w s old read uses k → Came (variable_read w s) old (Ok read) uses
-  read_end {read} {uses} {k} le r = record {
-    outcome = ap Ok (sym (r.values ∙ ap (λ l. read ++ filter (is_read w) l) (drop_past s k le) ∙ append-nil read));
-    uses = sym (r.uses ∙ ap (λ l. noted uses (live_reads l)) (drop_past s k le));
-  }
+pub lent_came : (w : World) (s : List Value) (old new : Noted) → list_all (is_read w) s ≡ true → new ≡ noted old (live_reads s)
+    → Came (variable_read w s) old (Ok s) new
+lent_came w s old new e f = record { outcome = ap Ok (sym (all_kept (is_read w) s e)); uses = f }
 
 -- the variable at a position of two lists
 pub left_variable : (xs ys : List (List Value)) (k : ℕ) (s : List Value) → slice_get xs k ≡ Some s → slice_index_or (xs ++ ys) k [] ≡ s

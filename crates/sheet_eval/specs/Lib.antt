@@ -1,9 +1,6 @@
 pub mod Answer
-pub mod Held
-pub mod Keys
 pub mod Made
 pub mod Parts
-pub mod Popped
 pub mod SoFar
 pub mod Told
 pub mod Totals

@@ -1,27 +1,21 @@
 -- What a lookup tells of a workbook, and what an evaluation over it comes to.
 use Rattle.std.specs.Prelude.{◌≡◌, List, fold, Ok}
 use Rattle.std.specs.List.{filter_map}
-use Rattle.sheet_values.specs.Sorted.{insert}
-use Rattle.sheet_columns.specs.ItemOrder.{item_cmp}
 use Rattle.sheet_columns.specs.declared.item.Item.{Item}
 use Rattle.sheet_meaning.specs.Run.{Outcome, after, both_outcomes}
 use Rattle.sheet_meaning.specs.declared.run.Run.{Run}
 use Rattle.sheet_meaning.specs.declared.run.Use.{Use}
 use Rattle.sheet_meaning.specs.declared.run.Use.TheVariants as used
 use Rattle.sheet_meaning.specs.Rounds.{item_in}
-use Rattle.sheet_meaning.specs.Support.{Cell, with_cell, in_order}
+use Rattle.sheet_meaning.specs.Support.{in_order}
+pub use Rattle.sheet_eval_sets.specs.Noted.{Noted, note_item, note_cell, with_items}
 pub use Rattle.sheet_meaning.specs.Support.{used_cells}
 pub use Rattle.sheet_meaning.specs.Told.{Told, or_none, world_told, is_lacking, lacks, lacking}
 
--- items in order, and cells in the order of first use
-pub record Noted : Type 0 where
-  pub items : List Item
-  pub cells : List Cell
-
 -- one use more
 abbrev pub note : Noted → Use → Noted
-note n (used.Read i) = record { items = insert item_cmp i n.items; cells = n.cells }
-note n (used.Cell o c) = record { items = n.items; cells = with_cell n.cells (o, c) }
+note n (used.Read i) = note_item n i
+note n (used.Cell o c) = note_cell n (o, c)
 
 abbrev pub noted : Noted → List Use → Noted
 noted n us = fold note n us
@@ -39,7 +33,3 @@ pub record Folds {A B : Type 0} (g : B → A → B) (r : Run (List A)) (so_far :
 -- the items that are used, in order
 abbrev pub used_items : List Use → List Item
 used_items us = in_order (filter_map item_in us)
-
--- what was read before, with the items that are used
-abbrev pub with_items : List Item → List Item → List Item
-with_items items more = fold (λ xs i. insert item_cmp i xs) items more

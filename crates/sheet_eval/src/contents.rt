@@ -1,19 +1,18 @@
 // What a formula reads of the content of a workbook: steps from objects, and variables.
-ghost use Rattle.std.specs.Prelude.{◌≡◌, ◌++◌, [], ◌∷◌, IfOk, OnOk, Ok, if◌then◌else◌, slice_index_or};
+ghost use Rattle.std.specs.Prelude.{◌≡◌, ◌++◌, [], ◌∷◌, IfOk, OnOk, Ok, filter, if◌then◌else◌, slice_index_or};
+ghost use Rattle.std.specs.List.{list_all};
 ghost use Rattle.sheet_values.specs.declared.value.Value.TheVariants.{Text};
 ghost use Rattle.sheet_values.specs.Sets.{union, insert};
 ghost use Rattle.sheet_meaning.specs.Run.{run_after};
-ghost use Rattle.sheet_meaning.specs.Formula.{step, on_object, is_read, live_reads, variable_read, objects_of};
+ghost use Rattle.sheet_meaning.specs.Formula.{step, on_object, is_read as value_is_read, live_reads, variable_read, objects_of};
 ghost use Rattle.sheet_eval.specs.Told.{world_told, noted, Came, Folds};
 ghost use Rattle.sheet_eval.specs.Turns.{way_of};
 
 use crate::forms::{joined, united};
-use crate::gathering::Gathering;
 use crate::lookup::Lookup;
-use crate::part::{Part, alone};
-use crate::uses::Uses;
+use crate::scene::Scene;
 use sheet_columns::{Fault, Item, Variables};
-use sheet_meaning::Use;
+use sheet_eval_sets::{Gathering, Part, Uses, alone};
 use sheet_values::{Name, NoMemory, Set, Value};
 use std::alloc::Global;
 
@@ -69,30 +68,29 @@ fn parent_set<'a>(alloc: Global, parent: Option<u64>) -> Result<Part<'a>, NoMemo
 
 // What a step from one object gives.
 fn way_from<'a, L: Lookup>(
-    alloc: Global,
+    scene: &Scene<'a, L>,
     object: u64,
     way: Way,
-    lookup: &'a L,
     uses: &mut Uses,
 ) -> Result<Result<Part<'a>, Fault>, NoMemory>
-    ensures { IfOk result (λ o. Came (way_of (world_told (L.told lookup.now)) way object) uses.old o uses.new) }
+    ensures { IfOk result (λ o. Came (way_of (world_told (L.told scene.now.lookup.now)) way object) uses.old o uses.new) }
 {
     match way {
         Way::Children(column) => {
-            uses.add(Use::Read(Item::Extent(object, column)))?;
-            Ok(Ok(Part::lent(lookup.children(object, column))))
+            uses.add_item(Item::Extent(object, column))?;
+            Ok(Ok(Part::lent(scene.lookup.children(object, column))))
         }
         Way::OfState(column) => {
-            uses.add(Use::Read(Item::Stored(object, column)))?;
-            Ok(Ok(Part::lent(lookup.cell(object, column))))
+            uses.add_item(Item::Stored(object, column))?;
+            Ok(Ok(Part::lent(scene.lookup.cell(object, column))))
         }
         Way::OfFormula(column) => {
-            uses.add(Use::Cell(object, column))?;
-            Ok(result_of(lookup, object, column))
+            uses.add_cell(object, column)?;
+            Ok(result_of(scene.lookup, object, column))
         }
         Way::Parent => {
-            uses.add(Use::Read(Item::Up(object)))?;
-            let set = parent_set(alloc, lookup.parent(object))?;
+            uses.add_item(Item::Up(object))?;
+            let set = parent_set(scene.alloc, scene.lookup.parent(object))?;
             Ok(Ok(set))
         }
     }
@@ -100,18 +98,17 @@ fn way_from<'a, L: Lookup>(
 
 // The union so far, with what a step from a value gives.
 fn next_step<'a, L: Lookup>(
-    alloc: Global,
+    scene: &Scene<'a, L>,
     value: &Value,
     way: Way,
-    lookup: &'a L,
     uses: &mut Uses,
     so_far: Result<Gathering<'a>, Fault>,
 ) -> Result<Result<Gathering<'a>, Fault>, NoMemory>
-    ensures { IfOk result (λ next. Folds union (on_object (way_of (world_told (L.told lookup.now)) way) value.now) so_far.entry uses.old next uses.new) }
+    ensures { IfOk result (λ next. Folds union (on_object (way_of (world_told (L.told scene.now.lookup.now)) way) value.now) so_far.entry uses.old next uses.new) }
 {
     match value {
         Value::Object(object) => {
-            let part = way_from(alloc, *object, way, lookup, uses)?;
+            let part = way_from(scene, *object, way, uses)?;
             joined(so_far, part)
         }
         Value::Truth(_) => Ok(so_far),
@@ -122,92 +119,147 @@ fn next_step<'a, L: Lookup>(
 
 // The union of what a step from each object gives.
 fn step_from<'a, L: Lookup>(
-    alloc: Global,
+    scene: &Scene<'a, L>,
     set: &Set,
     way: Way,
-    lookup: &'a L,
     uses: &mut Uses,
 ) -> Result<Result<Part<'a>, Fault>, NoMemory>
-    ensures { IfOk result (λ o. Came (step (way_of (world_told (L.told lookup.now)) way) set.now) uses.old o uses.new) }
+    ensures { IfOk result (λ o. Came (step (way_of (world_told (L.told scene.now.lookup.now)) way) set.now) uses.old o uses.new) }
 {
-    let mut so_far = Ok(Gathering::new(alloc));
+    let mut so_far = Ok(Gathering::new(scene.alloc));
     for k in 0..set.len() {
-        so_far = next_step(alloc, set.at(k), way, lookup, uses, so_far)?;
+        so_far = next_step(scene, set.at(k), way, uses, so_far)?;
     }
-    united(alloc, so_far)
+    united(scene.alloc, so_far)
 }
 
 /// A step from what is known.
 pub fn step_on<'a, L: Lookup>(
-    alloc: Global,
+    scene: &Scene<'a, L>,
     objects: Result<Part<'a>, Fault>,
     way: Way,
-    lookup: &'a L,
     uses: &mut Uses,
 ) -> Result<Result<Part<'a>, Fault>, NoMemory>
-    ensures { IfOk result (λ o. Came (run_after objects.entry (step (way_of (world_told (L.told lookup.now)) way))) uses.old o uses.new) }
+    ensures { IfOk result (λ o. Came (run_after objects.entry (step (way_of (world_told (L.told scene.now.lookup.now)) way))) uses.old o uses.new) }
 {
     match objects {
         Err(fault) => Ok(Err(fault)),
-        Ok(set) => step_from(alloc, set.set(), way, lookup, uses),
+        Ok(set) => step_from(scene, set.set(), way, uses),
     }
 }
 
-// What a value gives to a variable that is read.
-fn next_read<L: Lookup>(
-    value: &Value,
-    lookup: &L,
-    uses: &mut Uses,
-    read: &mut Set,
-) -> Result<(), NoMemory>
-    ensures read { OnOk result (read.new ≡ (if is_read (world_told (L.told lookup.now)) value.now then insert value.now read.old else read.old)) }
-    ensures uses { OnOk result (uses.new ≡ noted uses.old (live_reads (value.now ∷ []))) }
+// Notes that it is used whether the objects of a set are live.
+fn note_live(set: &Set, uses: &mut Uses) -> Result<(), NoMemory>
+    ensures { OnOk result (uses.new ≡ noted uses.old (live_reads set.now)) }
+{
+    let mut rest = set.as_slice();
+    while let Some((value, more)) = rest.split_first() {
+        note_value(value, uses)?;
+        rest = more;
+    }
+    Ok(())
+}
+
+fn note_value(value: &Value, uses: &mut Uses) -> Result<(), NoMemory>
+    ensures { OnOk result (uses.new ≡ noted uses.old (live_reads (value.now ∷ []))) }
 {
     if let Value::Object(object) = value {
-        uses.add(Use::Read(Item::Live(*object)))?;
-        if !lookup.is_live(*object) {
-            return Ok(());
-        }
+        uses.add_item(Item::Live(*object))?;
     }
-    let value = value.copy()?;
-    read.insert(value)?;
+    Ok(())
+}
+
+// Whether a value is read: an object only where it is live.
+fn is_read<L: Lookup>(value: &Value, lookup: &L) -> bool
+    ensures { result ≡ value_is_read (world_told (L.told lookup.now)) value.now }
+{
+    match value {
+        Value::Object(object) => lookup.is_live(*object),
+        Value::Truth(_) | Value::Number(_) | Value::Text(_) => true,
+    }
+}
+
+// Whether all values of a set are read.
+fn all_read<L: Lookup>(set: &Set, lookup: &L) -> bool
+    ensures { result ≡ list_all (value_is_read (world_told (L.told lookup.now))) set.now }
+{
+    let mut rest = set.as_slice();
+    while let Some((value, more)) = rest.split_first() {
+        if !is_read(value, lookup) {
+            return false;
+        }
+        rest = more;
+    }
+    true
+}
+
+// The values of a set that are read.
+fn read_values<L: Lookup>(alloc: Global, set: &Set, lookup: &L) -> Result<Set, NoMemory>
+    ensures { IfOk result (λ read. read ≡ filter (value_is_read (world_told (L.told lookup.now))) set.now) }
+{
+    let mut read = Set::empty(alloc);
+    let mut rest = set.as_slice();
+    while let Some((value, more)) = rest.split_first() {
+        add_read(value, lookup, &mut read)?;
+        rest = more;
+    }
+    Ok(read)
+}
+
+fn add_read<L: Lookup>(value: &Value, lookup: &L, read: &mut Set) -> Result<(), NoMemory>
+    ensures { OnOk result (read.new ≡ (if value_is_read (world_told (L.told lookup.now)) value.now then insert value.now read.old else read.old)) }
+{
+    if is_read(value, lookup) {
+        let value = value.copy()?;
+        read.insert(value)?;
+    }
     Ok(())
 }
 
 // The values of a variable, of objects only the live ones.
-fn read_set<'a, L: Lookup>(
-    alloc: Global,
+fn read_copied<'a, L: Lookup>(
+    scene: &Scene<'a, L>,
     set: &Set,
-    lookup: &'a L,
     uses: &mut Uses,
 ) -> Result<Result<Part<'a>, Fault>, NoMemory>
-    ensures { IfOk result (λ o. Came (variable_read (world_told (L.told lookup.now)) set.now) uses.old o uses.new) }
+    ensures { IfOk result (λ o. Came (variable_read (world_told (L.told scene.now.lookup.now)) set.now) uses.old o uses.new) }
 {
-    let mut read = Set::empty(alloc);
-    for k in 0..set.len() {
-        next_read(set.at(k), lookup, uses, &mut read)?;
-    }
+    note_live(set, uses)?;
+    let read = read_values(scene.alloc, set, scene.lookup)?;
     Ok(Ok(Part::own(read)))
 }
 
-/// The values of the variable at a position.
+// The same, without a copy where all values are read.
+fn read_lent<'a, L: Lookup>(
+    scene: &Scene<'a, L>,
+    set: &'a Set,
+    uses: &mut Uses,
+) -> Result<Result<Part<'a>, Fault>, NoMemory>
+    ensures { IfOk result (λ o. Came (variable_read (world_told (L.told scene.now.lookup.now)) set.now) uses.old o uses.new) }
+{
+    if !all_read(set, scene.lookup) {
+        return read_copied(scene, set, uses);
+    }
+    note_live(set, uses)?;
+    Ok(Ok(Part::lent(set)))
+}
+
+/// The values of the variable at a position. Those that comprehensions bind stand behind the others.
 pub fn variable<'a, L: Lookup>(
-    alloc: Global,
+    scene: &Scene<'a, L>,
     position: u32,
-    lookup: &'a L,
-    base: &Variables,
     bound: &Variables,
     uses: &mut Uses,
 ) -> Result<Result<Part<'a>, Fault>, NoMemory>
-    ensures { IfOk result (λ o. Came (variable_read (world_told (L.told lookup.now)) (slice_index_or (base.now ++ bound.now) position [])) uses.old o uses.new) }
+    ensures { IfOk result (λ o. Came (variable_read (world_told (L.told scene.now.lookup.now)) (slice_index_or (scene.now.variables.now ++ bound.now) position [])) uses.old o uses.new) }
 {
     let position = position as usize;
-    if position < base.len() {
-        return read_set(alloc, base.at(position), lookup, uses);
+    if position < scene.variables.len() {
+        return read_lent(scene, scene.variables.at(position), uses);
     }
-    let position = position - base.len();
+    let position = position - scene.variables.len();
     if position < bound.len() {
-        return read_set(alloc, bound.at(position), lookup, uses);
+        return read_copied(scene, bound.at(position), uses);
     }
-    Ok(Ok(Part::own(Set::empty(alloc))))
+    Ok(Ok(Part::own(Set::empty(scene.alloc))))
 }

@@ -3,13 +3,13 @@ ghost use Rattle.std.specs.Prelude.{◌≡◌, ◌+◌, [], ◌∷◌, IfOk, OnO
 ghost use Rattle.sheet_meaning.specs.Formula.{run};
 ghost use Rattle.sheet_meaning.specs.Support.{with_cells};
 ghost use Rattle.sheet_eval.specs.Answer.{IsAnswer, Answers};
-ghost use Rattle.sheet_eval.specs.Told.{world_told, lacks, used_cells, used_items, with_items};
+ghost use Rattle.sheet_eval.specs.Told.{world_told, Came, lacks, used_cells, used_items, with_items};
 
 use crate::lookup::Lookup;
-use crate::part::Part;
-use crate::uses::Uses;
+use crate::scene::Scene;
 use crate::working::work;
 use sheet_columns::{Cells, Core, Fault, Place, Reads, Variables};
+use sheet_eval_sets::{Part, Uses};
 use sheet_values::{NoMemory, Set, Steps};
 use std::alloc::Global;
 use std::sync::ledger::Ledger;
@@ -43,12 +43,32 @@ pub fn evaluate<L: Lookup, G: Ledger>(
 {
     steps.tick();
     let mut uses = Uses::new(alloc);
-    let mut bound = Variables::new(alloc);
-    let outcome = work(alloc, core, place, lookup, variables, &mut bound, &mut uses)?;
+    let outcome = outcome_of(alloc, core, place, variables, lookup, &mut uses)?;
     let need = lacking(alloc, uses.cells(), lookup)?;
     let answer = answer(outcome, need)?;
     uses.tell(reads)?;
     Ok(answer)
+}
+
+// What the formula comes to, where none of its comprehensions has bound a variable yet.
+fn outcome_of<'a, L: Lookup>(
+    alloc: Global,
+    core: &Core,
+    place: Place,
+    variables: &'a Variables,
+    lookup: &'a L,
+    uses: &mut Uses,
+) -> Result<Result<Part<'a>, Fault>, NoMemory>
+    ensures { IfOk result (λ o. Came (run core.now (world_told (L.told lookup.now)) place variables.now) uses.old o uses.new) }
+{
+    let scene = Scene {
+        alloc,
+        place,
+        lookup,
+        variables,
+    };
+    let mut bound = Variables::new(alloc);
+    work(&scene, core, &mut bound, uses)
 }
 
 // The cells that the lookup lacks.

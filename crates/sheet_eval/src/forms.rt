@@ -10,10 +10,9 @@ ghost use Rattle.std.specs.Prelude.{◌+◌, ◌<◌};
 ghost use Rattle.sheet_eval.specs.Parts.{number_of, truth_of, text_of, one_of};
 ghost use Rattle.sheet_eval.specs.Made.{made_of_one, made_of_two};
 
-use crate::gathering::Gathering;
-use crate::part::{Part, alone};
 use crate::parts::{both, number, one, outranked, text, truth};
 use sheet_columns::{ArithmeticOperator, Extremum, Fault, OrderTest, Place, SetOperator, SetTest};
+use sheet_eval_sets::{Gathering, Part, alone};
 use sheet_values::{Name, NoMemory, NotOne, Ordered, Set, Value};
 use std::alloc::Global;
 use std::cmp::Ordering;

@@ -4,12 +4,10 @@
 mod contents;
 mod evaluation;
 mod forms;
-mod gathering;
 mod lookup;
-mod part;
 mod parts;
+mod scene;
 mod total;
-mod uses;
 mod working;
 
 pub use evaluation::{Outcome, evaluate};

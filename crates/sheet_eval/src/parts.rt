@@ -5,8 +5,8 @@ ghost use Rattle.sheet_meaning.specs.Run.{is_none as stands_for_none, outranked,
 ghost use Rattle.sheet_meaning.specs.Formula.{text_in};
 ghost use Rattle.sheet_eval.specs.Parts.{number_of, truth_of, is_one_text, is_one, not_nothing};
 
-use crate::part::Part;
 use sheet_columns::{Fault, Place};
+use sheet_eval_sets::Part;
 use sheet_values::{Name, NotOne, Set, Value};
 
 /// Whether a fault stands for no outcome.

@@ -7,10 +7,9 @@ ghost use Rattle.sheet_eval.specs.Parts.{quantify, quantify_none};
 ghost use Rattle.sheet_eval.specs.SoFar.{aggregate_of, values_so_far, unless_fault, first_of};
 ghost use Rattle.sheet_eval.specs.Totals.{start, taken, no_part, next_so_far, finished, is_test, with_part};
 
-use crate::gathering::Gathering;
-use crate::part::{Part, alone};
 use crate::parts::{number, outranked, truth};
 use sheet_columns::{Fault, Place, Quantifier};
+use sheet_eval_sets::{Gathering, Part, alone};
 use sheet_values::{NoMemory, Value};
 use std::alloc::Global;
 use std::marker::Model;

@@ -8,5 +8,5 @@ use Rattle.sheet_eval.proofs.contents.step_from.Goals as goal
 
 pub loop-k-preserved : goal.loop-k-preserved
 loop-k-preserved g c =
-    reached_more union [] (on_object (way_of (world_told (g.L.Lookup.told c.args.lookup.now)) c.args.way)) c.args.set.now c.args.uses.now
+    reached_more union [] (on_object (way_of (world_told (g.L.Lookup.told c.args.scene.now.lookup.now)) c.args.way)) c.args.set.now c.args.uses.now
     c.at.ensures c.loop-k.invariant c.in_ok-so_far.ensures

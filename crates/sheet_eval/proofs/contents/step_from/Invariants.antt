@@ -7,4 +7,4 @@ use Rattle.sheet_eval.proofs.PartLemmas.{Reached}
 use Rattle.sheet_eval.proofs.contents.step_from.Given as goal
 
 abbrev pub invariant-loop-k : goal.invariant-loop-k
-invariant-loop-k g l = Reached union [] (on_object (way_of (world_told (g.L.Lookup.told l.lookup)) l.way)) l.set l.fn.uses l.so_far l.uses l.k
+invariant-loop-k g l = Reached union [] (on_object (way_of (world_told (g.L.Lookup.told l.scene.lookup.now)) l.way)) l.set l.fn.uses l.so_far l.uses l.k

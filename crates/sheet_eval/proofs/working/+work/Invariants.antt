@@ -43,15 +43,15 @@ decreases-bound_turn g l = 6 * max (size-Core l.body.now) (size-Core l.condition
 
 abbrev pub invariant-set_of-loop-part : goal.invariant-set_of-loop-part
 invariant-set_of-loop-part g l = record {
-  reached : Reached union [] (λ e. single (run e (world_told (g.L.Lookup.told l.lookup)) l.place (l.base ++ l.fn.bound))) l.parts l.fn.uses l.so_far l.uses
+  reached : Reached union [] (λ e. single (run e (world_told (g.L.Lookup.told l.scene.lookup.now)) l.scene.place (l.scene.variables.now ++ l.fn.bound))) l.parts l.fn.uses l.so_far l.uses
       l.part-index;
   bound : l.bound ≡ l.fn.bound;
 }
 
 abbrev pub invariant-values_of-loop-k : goal.invariant-values_of-loop-k
 invariant-values_of-loop-k g l = record {
-  reached : Reached (with_part l.fn.aggregate) (start l.fn.aggregate) (turn_of l.fn.aggregate l.body l.condition (world_told (g.L.Lookup.told l.lookup))
-      l.place (l.base ++ l.fn.bound)) l.set l.fn.uses l.total.so_far l.uses l.k;
+  reached : Reached (with_part l.fn.aggregate) (start l.fn.aggregate) (turn_of l.fn.aggregate l.body l.condition (world_told (g.L.Lookup.told l.scene.lookup.now))
+      l.scene.place (l.scene.variables.now ++ l.fn.bound)) l.set l.fn.uses l.total.so_far l.uses l.k;
   bound : l.bound ≡ l.fn.bound;
   aggregate : l.total.aggregate ≡ l.fn.aggregate;
 }

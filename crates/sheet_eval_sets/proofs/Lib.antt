@@ -1,0 +1,4 @@
+pub mod CellLemmas
+pub mod Cutting
+pub mod KeyLemmas
+pub mod Unions

@@ -1,0 +1,10 @@
+use Rattle.std.proofs.Common.{◌≡◌, [], length}
+use Rattle.std.specs.Prelude.{fold}
+use Rattle.sheet_values.specs.Sets.{union}
+use Rattle.sheet_eval_sets.proofs.gathering.merged_down.Given as goal
+
+abbrev pub decreases-loop-last : goal.decreases-loop-last
+decreases-loop-last l = length l.parts.items
+
+abbrev pub invariant-loop-last : goal.invariant-loop-last
+invariant-loop-last l = union (fold union [] l.parts.items) l.part ≡ union (fold union [] l.fn.parts.items) l.fn.part
