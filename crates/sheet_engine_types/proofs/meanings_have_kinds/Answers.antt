@@ -1,0 +1,5 @@
+use Rattle.sheet_engine_types.proofs.Rounds as rounds
+use Rattle.sheet_engine_types.proofs.meanings_have_kinds.Goals as goal
+
+pub returns : goal.returns
+returns c = rounds.meanings_have_kinds
