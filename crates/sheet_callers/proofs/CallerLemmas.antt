@@ -152,7 +152,8 @@ next_after cs (suc k) n line answer some = next_at cs k (slice_get cs k) refl so
     set_get (x ∷ xs) zero d some = refl
     set_get (x ∷ xs) (suc j) d some = set_get xs j d some
 
-    next_at : (xs : List Caller) (j : ℕ) (o : Option Caller) → slice_get xs j ≡ o → IsSome o → IsNext (caller_at (keeping xs (suc j) n line answer) (suc j)) (n + 1)
+    next_at : (xs : List Caller) (j : ℕ) (o : Option Caller) → slice_get xs j ≡ o → IsSome o
+        → IsNext (caller_at (keeping xs (suc j) n line answer) (suc j)) (n + 1)
     next_at xs j None is none = absurd (true≢false (sym none))
     next_at xs j (Some c) is there =
         rw is (rw (set_get xs j (with_kept c n line answer) (ap is_some is)) refl)

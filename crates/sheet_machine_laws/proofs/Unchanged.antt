@@ -50,7 +50,8 @@ accepting h new caller n line given =
     (record new { callers = keeping new.callers caller n line given; accepted = h.accepted + 1 }, reply.Accepted n given)
     (refusing h (refused.Full Requests most_requests)) (λ e. absurd (true≢false e))
 
-numbered : (h : Holding) (k : ℕ) (go : ℕ → Caller → Acted) → ((j : ℕ) (c : Caller) → Keeps h (go j c)) → (o : Option Caller) → Keeps h (caller_numbered h k go o)
+numbered : (h : Holding) (k : ℕ) (go : ℕ → Caller → Acted) → ((j : ℕ) (c : Caller) → Keeps h (go j c))
+    → (o : Option Caller) → Keeps h (caller_numbered h k go o)
 numbered h k go keeps None = refusing h refused.UnknownKey
 numbered h k go keeps (Some c) = keeps k c
 
@@ -74,7 +75,8 @@ pub of_procedure : (h : Holding) (arguments : List Value) (go : Procedure → Ac
 of_procedure h arguments go keeps None = refusing h refused.UnknownName
 of_procedure h arguments go keeps (Some p) = good h (go p) (keeps p) (bad_argument h.state p.parameters arguments)
 
-pub of_view : (h : Holding) (arguments : List Value) (go : View → Acted) → ((v : View) → Keeps h (go v)) → (o : Option View) → Keeps h (view_found h arguments go o)
+pub of_view : (h : Holding) (arguments : List Value) (go : View → Acted) → ((v : View) → Keeps h (go v))
+    → (o : Option View) → Keeps h (view_found h arguments go o)
 of_view h arguments go keeps None = refusing h refused.UnknownName
 of_view h arguments go keeps (Some v) = good h (go v) (keeps v) (bad_argument h.state v.parameters arguments)
 

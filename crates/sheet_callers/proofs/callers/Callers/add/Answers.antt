@@ -23,7 +23,8 @@ pub invariant_of-self-2 : goal.invariant_of-self-2
 invariant_of-self-2 c =
     let keys : c.add.new.self ≡ c.self.inside.keys ++ c.args.key ∷ [] = search rules in
     let names : c.add-2.new.self ≡ c.self.inside.names ++ c.args.name ∷ [] = search rules in
-    let accounts : c.push_reserved.new.self.items ≡ c.self.inside.accounts.items ++ new_caller c.args.key c.args.name (Some c.args.object) ∷ [] = search rules in
+    let one_more = new_caller c.args.key c.args.name (Some c.args.object) in
+    let accounts : c.push_reserved.new.self.items ≡ c.self.inside.accounts.items ++ one_more ∷ [] = search rules in
     let room : length c.self.inside.accounts.items < most_callers = search rules in
     rw (keys, names, accounts)
     (indexed_more c.self.inside.keys c.self.inside.names c.self.inside.accounts.items c.args.key c.args.name c.args.object c.self.invariant room)

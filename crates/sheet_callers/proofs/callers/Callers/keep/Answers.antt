@@ -22,7 +22,8 @@ invariant_of-self c =
     record {
       keys_are = c.self.invariant.keys_are ∙ sym (same_images (λ (x : Caller). x.key) cs k old c.keep.new.self value (ap (λ (x : Caller). x.key) kept));
       names_are = c.self.invariant.names_are ∙ sym (same_images (λ (x : Caller). x.name) cs k old c.keep.new.self value (ap (λ (x : Caller). x.name) kept));
-      operator = operator_set cs k old c.keep.new.self value (ap (λ (x : Caller). x.name) kept) (ap (λ (x : Caller). x.object) kept) some c.self.invariant.operator;
+      operator = operator_set cs k old c.keep.new.self value (ap (λ (x : Caller). x.name) kept) (ap (λ (x : Caller). x.object) kept) some
+          c.self.invariant.operator;
       numbers = all_set KeepsLast cs k c.keep.new.self c.self.invariant.numbers (subst KeepsLast (sym kept) new_last);
       few = omega (arith, c.self.invariant.few, same);
     }
@@ -41,4 +42,5 @@ returns-clause-next c =
     let there = next_is_there (caller_at cs c.args.caller) c.args.number next in
     let kept = keeping_is cs c.args.caller c.index_mut.result.now c.keep.new.self c.args.number c.args.line.items c.args.answer
     there c.index_mut.ensures.value c.keep.ensures in
-    subst (λ x. IsNext (caller_at x c.args.caller) (c.args.number + 1)) (sym kept) (next_after cs c.args.caller c.args.number c.args.line.items c.args.answer there)
+    subst (λ x. IsNext (caller_at x c.args.caller) (c.args.number + 1)) (sym kept)
+    (next_after cs c.args.caller c.args.number c.args.line.items c.args.answer there)
