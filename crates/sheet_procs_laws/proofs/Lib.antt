@@ -1,0 +1,6 @@
+pub mod FormulaLemmas
+pub mod TypedBooks
+pub mod Following
+pub mod Changing
+pub mod Passing
+pub mod Running
