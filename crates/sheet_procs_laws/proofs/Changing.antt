@@ -28,7 +28,7 @@ use Rattle.sheet_state.specs.Schemas.{Carries}
 use Rattle.sheet_state.proofs.Schemas.{formulas_dont_matter}
 use Rattle.sheet_state.proofs.WithObject.{found_kept, not_found, unborn, object_well_formed}
 use Rattle.sheet_state.proofs.WithSet.{set_well_formed}
-use Rattle.sheet_state.proofs.Without.{differs, found_left, left_well_formed}
+use Rattle.sheet_state.proofs.Without.{differs, family_down, found_left, left_well_formed, root_stays}
 use Rattle.sheet_engine_types.specs.Types.{IsSetOf}
 use Rattle.sheet_engine_types.proofs.Contents.{stored_typed}
 use Rattle.sheet_engine_types.proofs.OneKind.{of_union, of_filter}
@@ -125,7 +125,8 @@ module _ (schema : Schema) (s : State) (formed : IsWellFormed (workbook schema s
   -- `delete`, of one object
   pub removed : (o : ℕ) → 0 < o → LeadsTo schema s (without_object s o)
   removed o positive = record {
-    formed = (carries (without_object s o)).well_formed.0 (left_well_formed nodes s plain o positive);
+    formed = (carries (without_object s o)).well_formed.0
+        (left_well_formed nodes s plain (family s.objects o) (family_down nodes s plain o positive) (root_stays nodes s plain o positive));
     follows = record {
       drawn = omega arith;
       column = λ m d lt e. still m d (sym (ap column_in (found_left (family s.objects o) s.objects m)) ∙ e);
