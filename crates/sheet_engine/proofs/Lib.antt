@@ -1,0 +1,5 @@
+mod BookCells
+mod Counting
+mod Moving
+mod Results
+mod Snocs
