@@ -1,5 +1,6 @@
 -- Texts found by a look-up.
-use Rattle.std.proofs.Common.{◌≡◌, ℕ, ◌+◌, ◌++◌, Bool, true, false, cond, ◌||◌, if◌then◌else◌, List, [], ◌∷◌, map, position, Some, None, is_some, refl, sym, ap, ◌∙◌, not}
+use Rattle.std.proofs.Common.{◌≡◌, ℕ, ◌+◌, ◌++◌, Bool, true, false, cond, ◌||◌, if◌then◌else◌, List}
+use Rattle.std.proofs.Common.{[], ◌∷◌, map, position, Some, None, is_some, refl, sym, ap, ◌∙◌, not}
 use Rattle.std.specs.List.{prefix_len, list_any, position_from, AllByRecursion, IsDistinct}
 use Rattle.std.proofs.lemmas.Bool.{true≢false}
 use Rattle.std.proofs.lemmas.Iterator.Adapters.{position_from-zero}

@@ -53,7 +53,8 @@ module _ (s : Schema) (o k : ℕ) where
         | false ↦ refl
       ]
 
-  past : (n c : ℕ) (f : Option Core) (fs : List ColumnFormula) → (n ≡ c → ⊥) → cell_at (cells (cons_option (numbered_formula n f) fs)) (o, c) ≡ cell_at (cells fs) (o, c)
+  past : (n c : ℕ) (f : Option Core) (fs : List ColumnFormula) → (n ≡ c → ⊥) →
+      cell_at (cells (cons_option (numbered_formula n f) fs)) (o, c) ≡ cell_at (cells fs) (o, c)
   past n c None fs ne = refl
   past n c (Some e) fs ne = past_cell n c e (cells fs) (is_number k (above_of s.columns n)) ne
 
@@ -125,7 +126,8 @@ module _ (b : Contents) (k : Kept) (served : IsServed b k) (x : Cell) where
   of_column c =
       let z : 0 + x.1 ≡ x.1 = omega arith in
       subst
-      (λ j. cell_at (cells (schema_of b) x.0 c (numbered 0 b.formulas)) (x.0, j) ≡ cell_for x.0 j (is_number c (above_of b.columns j)) (slice_get b.formulas x.1)) z
+      (λ j. cell_at (cells (schema_of b) x.0 c (numbered 0 b.formulas)) (x.0, j) ≡ cell_for x.0 j (is_number c (above_of b.columns j))
+      (slice_get b.formulas x.1)) z
       (at_place (schema_of b) x.0 c 0 x.1 b.formulas)
 
   not_formula : ((e : Core) → slice_get b.formulas x.1 ≡ Some (Some e) → ⊥) → is_formula (column_of b.columns x.1) ≡ false
@@ -159,7 +161,8 @@ module _ (b : Contents) (k : Kept) (served : IsServed b k) (x : Cell) where
   cell_is e there at =
       let below = both_true (is_formula (column_of b.columns x.1)) (is_below objects_column (above_of b.columns x.1)) there in
       by_column
-      ∙ elim objects_column as (λ o. is_below o (above_of b.columns x.1) ≡ true → cell_by_column (schema_of b) x o ≡ Some (record { object = x.0; column = x.1; core = e })) [
+      ∙ elim objects_column as (λ o. is_below o (above_of b.columns x.1) ≡ true →
+      cell_by_column (schema_of b) x o ≡ Some (record { object = x.0; column = x.1; core = e })) [
         | None ↦ λ h. cc
         | Some c ↦ λ h.
             of_column c

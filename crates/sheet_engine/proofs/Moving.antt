@@ -1,5 +1,6 @@
 -- Each step of the settling keeps what holds of results and started cells, and leaves less to do.
-use Rattle.std.proofs.Common.{◌≡◌, refl, sym, ap, ◌∙◌, subst, inl, inr, ⊎_elim, ℕ, ◌<◌, Bool, true, false, List, [], ◌∷◌, ◌++◌, arith, Option, Some, None, rules}
+use Rattle.std.proofs.Common.{◌≡◌, refl, sym, ap, ◌∙◌, subst, inl, inr, ⊎_elim, ℕ, ◌<◌}
+use Rattle.std.proofs.Common.{Bool, true, false, List, [], ◌∷◌, ◌++◌, arith, Option, Some, None, rules}
 use Rattle.std.specs.Prelude.{◌⊎◌, if◌then◌else◌, IsSome}
 use Rattle.sheet_values.specs.declared.value.Value.{Value}
 use Rattle.sheet_meaning.specs.Run.{Outcome as Result_of, none}
@@ -13,14 +14,16 @@ use Rattle.sheet_engine_laws.specs.Chains.{Chained, LastReads}
 use Rattle.sheet_engine_laws.proofs.Settled.{chains_are_cycles}
 use Rattle.sheet_engine.specs.Seen.{workbook_of}
 use Rattle.sheet_engine.specs.Standings.{Entries, stands, Puts, weight, result_or, is_there, Later, Grows}
-use Rattle.sheet_engine.specs.Started.{IsServed, ResultsHold, AreApart, IsUnderWay, IsWaiting, ReadsAll, Lacks, left, MayStart, Advances, cell_of, cells_started, closing, found_of}
+use Rattle.sheet_engine.specs.Started.{IsServed, ResultsHold, AreApart, IsUnderWay, IsWaiting, ReadsAll, Lacks}
+use Rattle.sheet_engine.specs.Started.{left, MayStart, Advances, cell_of, cells_started, closing, found_of}
 use Rattle.sheet_engine.specs.declared.settling.Frame.{Frame}
 use Rattle.sheet_engine.specs.declared.standings.Standing.{Standing}
 use Rattle.sheet_engine.specs.declared.standings.Standing.TheVariants.{Started, Settled}
 use Rattle.sheet_engine.proofs.BookCells.{there_is}
 use Rattle.sheet_engine.proofs.Counting.{later_itself, grows_on, left_less, falls_at, put_here, put_cases, put_grows}
 use Rattle.sheet_engine.proofs.Results.{some_by, lacking_there}
-use Rattle.sheet_engine.proofs.Snocs.{cells_snoc, had_snoc, has_front, has_last, apart_snoc, front_apart, all_snoc, all_front, chained_snoc, front_chained, last_reads}
+use Rattle.sheet_engine.proofs.Snocs.{cells_snoc, had_snoc, has_front, has_last, apart_snoc}
+use Rattle.sheet_engine.proofs.Snocs.{front_apart, all_snoc, all_front, chained_snoc, front_chained, last_reads}
 
 -- a standing is not nothing, and neither waits where it has a result
 not_none : (s : Option Standing) → s ≡ Some Started → s ≡ None → ⊥

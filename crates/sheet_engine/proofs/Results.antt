@@ -69,7 +69,8 @@ module _ (b : Contents) (k : Kept) (served : IsServed b k) where
     -- the results that are found are the meanings of their cells
     pub are_settled : AreSettled (workbook_of b k) (found_of b k es)
     are_settled o c r e =
-        elim (stands es (o, c)) as (λ s. stands es (o, c) ≡ s → result_or s (is_there b k.present.state o c) none ≡ Some r → r ≡ meaning (workbook_of b k) o c) [
+        elim (stands es (o, c)) as (λ s. stands es (o, c) ≡ s → result_or s (is_there b k.present.state o c) none ≡ Some r →
+        r ≡ meaning (workbook_of b k) o c) [
           | None ↦ λ at h. no_cell h
           | Some Started ↦ λ at h. no_cell h
           | Some (Settled q) ↦ λ at h. let same : q ≡ r = cc in sym same ∙ hold (o, c) q at
@@ -77,7 +78,8 @@ module _ (b : Contents) (k : Kept) (served : IsServed b k) where
       where
         no_cell : (if is_there b k.present.state o c then None else Some none) ≡ Some r → r ≡ meaning (workbook_of b k) o c
         no_cell h =
-            elim (is_there b k.present.state o c) as (λ t. is_there b k.present.state o c ≡ t → (if t then None else Some none) ≡ Some r → r ≡ meaning (workbook_of b k) o c) [
+            elim (is_there b k.present.state o c) as (λ t. is_there b k.present.state o c ≡ t → (if t then None else Some none) ≡ Some r →
+            r ≡ meaning (workbook_of b k) o c) [
               | true ↦ λ at e. cc
               | false ↦ λ at e. let same : none ≡ r = cc in sym same ∙ sym (not_there (o, c) at)
             ] refl h

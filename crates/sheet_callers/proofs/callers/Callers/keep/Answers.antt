@@ -2,7 +2,8 @@ use Rattle.std.proofs.Common.{◌-◌, ◌+◌, ◌∙◌, sym, ap, subst, arith
 use Rattle.sheet_callers.specs.Callers.{Caller, caller_at}
 use Rattle.sheet_callers.specs.Judging.{IsNext}
 use Rattle.sheet_callers.specs.Keeping.{keeping, KeepsLast}
-use Rattle.sheet_callers.proofs.CallerLemmas.{keeping_is, same_images, same_length, all_set, all_at, operator_set, next_is_there, next_of, next_after, present, place_of}
+use Rattle.sheet_callers.proofs.CallerLemmas.{keeping_is, same_images, same_length, all_set, all_at}
+use Rattle.sheet_callers.proofs.CallerLemmas.{operator_set, next_is_there, next_of, next_after, present, place_of}
 use Rattle.sheet_callers.proofs.NumberLemmas.{keeps_last}
 use Rattle.sheet_callers.proofs.callers.Callers.keep.Goals as goal
 

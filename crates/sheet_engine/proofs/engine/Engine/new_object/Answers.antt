@@ -16,7 +16,8 @@ returns-clause-room c =
     subst (λ n. first_full (book_of n (with_object (columns_alone n) c.args.self.now.state.present.state c.args.column c.args.parent)) ≡ None)
     (same ∙ ap (λ (s : Seen). s.book.columns) c.self.view_is)
     (subst
-    (λ (s : Seen). first_full (book_of c.columns.result.now (with_object (columns_alone c.columns.result.now) s.state.present.state c.args.column c.args.parent))
+    (λ (s : Seen). first_full (book_of c.columns.result.now (with_object
+    (columns_alone c.columns.result.now) s.state.present.state c.args.column c.args.parent))
     ≡ None) c.self.view_is c.in-Ok.ensures.room)
 
 pub returns-in-Err-clause-full : goal.returns-in-Err-clause-full
