@@ -1,6 +1,6 @@
 // One object of many that goes and comes back.
 ghost use Rattle.std.specs.Prelude.{◌≡◌, ◌≤◌, IfOk, length};
-ghost use Rattle.sheet_state.specs.Kept.{IsKept};
+ghost use Rattle.sheet_state.specs.Stored.{IsStored};
 
 use sheet_columns::Columns;
 use sheet_state::{State, StateRefusal};
@@ -11,8 +11,8 @@ use test_state::{columns, delete, delete_all, make, refer};
 
 // A shelf with that many boxes.
 fn fill(columns: &Columns, state: &mut State, boxes: u32) -> Result<(), StateRefusal>
-    requires { IsKept columns.now state.old }
-    ensures { IsKept columns.now state.new }
+    requires { IsStored columns.now state.old }
+    ensures { IsStored columns.now state.new }
 {
     let Some(shelf) = make(columns, state, 1, 0)? else {
         return Ok(());
@@ -25,8 +25,8 @@ fn fill(columns: &Columns, state: &mut State, boxes: u32) -> Result<(), StateRef
 
 // That many shelves, with that many boxes each.
 fn build(columns: &Columns, state: &mut State, shelves: u64, boxes: u32) -> Result<(), StateRefusal>
-    requires { IsKept columns.now state.old }
-    ensures { IsKept columns.now state.new }
+    requires { IsStored columns.now state.old }
+    ensures { IsStored columns.now state.new }
 {
     for _ in 0..shelves {
         fill(columns, state, boxes)?;
@@ -37,8 +37,8 @@ fn build(columns: &Columns, state: &mut State, shelves: u64, boxes: u32) -> Resu
 
 // Lets an object go and come back that many times.
 fn let_go(columns: &Columns, state: &mut State, object: u64, times: u32) -> Result<(), StateRefusal>
-    requires { IsKept columns.now state.old }
-    ensures { IsKept columns.now state.new }
+    requires { IsStored columns.now state.old }
+    ensures { IsStored columns.now state.new }
 {
     for _ in 0..times {
         delete_and_undo(columns, state, object)?;
@@ -48,8 +48,8 @@ fn let_go(columns: &Columns, state: &mut State, object: u64, times: u32) -> Resu
 
 // Lets an object go and come back.
 fn delete_and_undo(columns: &Columns, state: &mut State, object: u64) -> Result<(), StateRefusal>
-    requires { IsKept columns.now state.old }
-    ensures { IsKept columns.now state.new }
+    requires { IsStored columns.now state.old }
+    ensures { IsStored columns.now state.new }
 {
     let mark = state.mark();
     delete(columns, state, object)?;
@@ -73,8 +73,8 @@ pub fn deleted(alloc: Global, objects: u32, times: u32, boxes: u32) -> Result<u6
 
 // Lets all boxes of the first shelf go at once and come back, that many times.
 fn let_all_go(columns: &Columns, state: &mut State, times: u32) -> Result<(), NoMemory>
-    requires { IsKept columns.now state.old }
-    ensures { IsKept columns.now state.new }
+    requires { IsStored columns.now state.old }
+    ensures { IsStored columns.now state.new }
 {
     for _ in 0..times {
         delete_all_and_undo(columns, state)?;
@@ -84,8 +84,8 @@ fn let_all_go(columns: &Columns, state: &mut State, times: u32) -> Result<(), No
 
 // Lets all boxes of the first shelf go at once and come back.
 fn delete_all_and_undo(columns: &Columns, state: &mut State) -> Result<(), NoMemory>
-    requires { IsKept columns.now state.old }
-    ensures { IsKept columns.now state.new }
+    requires { IsStored columns.now state.old }
+    ensures { IsStored columns.now state.new }
 {
     let boxes = state.children(1, 3).copy()?;
     let mark = state.mark();

@@ -3,7 +3,7 @@ ghost use Rattle.std.specs.Prelude.{◌≡◌, [], ◌∷◌, ◌++◌, IfOk, On
 ghost use Rattle.std.specs.List.{filter_map, list_all};
 ghost use Rattle.std.specs.Option.{option_to_list};
 ghost use Rattle.sheet_values.specs.Sorted.{agrees as agrees_to};
-ghost use Rattle.sheet_values.specs.Sets.{contains, insert, union, kept};
+ghost use Rattle.sheet_values.specs.Sets.{contains, insert, union, picked};
 ghost use Rattle.sheet_meaning.specs.Formula.{sets_equal, combine, compare, truth_in as truth_told, number_in as number_told, text_in, object_in as object_told};
 
 use sheet_columns::{SetOperator, SetTest};
@@ -97,13 +97,13 @@ fn agrees(wanted: bool, found: bool) -> bool
 }
 
 // The values of the left set that are in the right one, or that aren't, as is wanted.
-fn kept(alloc: Global, wanted: bool, left: &[Value], right: &[Value]) -> Result<Values, NoMemory>
-    ensures { IfOk result (λ list. list ≡ kept wanted left.now right.now) }
+fn picked(alloc: Global, wanted: bool, left: &[Value], right: &[Value]) -> Result<Values, NoMemory>
+    ensures { IfOk result (λ list. list ≡ picked wanted left.now right.now) }
 {
     let Some((first, more)) = left.split_first() else {
         return Ok(Values::new(alloc));
     };
-    let rest = kept(alloc, wanted, more, right)?;
+    let rest = picked(alloc, wanted, more, right)?;
     if agrees(wanted, contains(first, right)) {
         in_front(alloc, first, rest.as_slice())
     } else {
@@ -122,8 +122,8 @@ pub fn combine(
 {
     match operator {
         SetOperator::Union => union(alloc, left, right),
-        SetOperator::Intersect => kept(alloc, true, left, right),
-        SetOperator::Except => kept(alloc, false, left, right),
+        SetOperator::Intersect => picked(alloc, true, left, right),
+        SetOperator::Except => picked(alloc, false, left, right),
     }
 }
 

@@ -10,7 +10,7 @@ use Rattle.sheet_columns.specs.Firsts.{HasFirstValues}
 use Rattle.sheet_columns.specs.Tree.{column_of}
 use Rattle.sheet_columns.specs.Statements.{statements_in}
 use Rattle.sheet_columns.specs.declared.formula.Core.{Core}
-use Rattle.sheet_types_rules.specs.Columns.{kinds_from, home, IsHeldIn}
+use Rattle.sheet_types_rules.specs.Columns.{is_known, kinds_from, home, IsHeldIn}
 use Rattle.sheet_types_rules.specs.Formulas.{kind_in}
 use Rattle.sheet_types_rules.specs.Parameters.{AreParametersIn}
 use Rattle.sheet_types_rules.specs.Statements.{suits, behind_list, numbered_list}
@@ -18,10 +18,6 @@ use Rattle.sheet_types_rules.specs.Views.{are_parts}
 use Rattle.sheet_books.specs.declared.body.Procedure.{Procedure}
 use Rattle.sheet_books.specs.declared.body.View.{View}
 use Rattle.sheet_books.specs.declared.book.Contents.{Contents}
-
-abbrev pub is_known : Kind → Bool
-is_known kind.Unknown = false
-is_known k = true
 
 -- a formula, where the positions have these types, whose type serves where that one is wanted
 abbrev pub IsTypedAs : Kind → List Node → List Kind → Core → Type 0

@@ -21,7 +21,7 @@ use Rattle.sheet_books.specs.Books.{HasFormula, HaveFormulas}
 use Rattle.sheet_books.specs.Schemas.{numbered_formula, schema_of}
 use Rattle.sheet_books.specs.declared.book.Contents.{Contents}
 use Rattle.sheet_books.proofs.Having.{found}
-use Rattle.sheet_state.specs.Kept.{Kept}
+use Rattle.sheet_state.specs.Stored.{Stored}
 use Rattle.sheet_engine.specs.Seen.{workbook_of}
 use Rattle.sheet_engine.specs.Standings.{is_there, is_below}
 use Rattle.sheet_engine.specs.Started.{IsServed}
@@ -115,7 +115,7 @@ no_column b s o c n same past =
     (ap (λ w. is_formula w && is_below (column_in (object_at s.objects o)) (above_of b.columns c))
     (ap (λ m. column_of m c) (sym same) ∙ ap (option_map (λ (m : Node). m.column)) (slice_get_past n c past)))
 
-module _ (b : Contents) (k : Kept) (served : IsServed b k) (x : Cell) where
+module _ (b : Contents) (k : Stored) (served : IsServed b k) (x : Cell) where
   abbrev objects_column : Option ℕ
   objects_column = column_in (object_at k.present.state.objects x.0)
 

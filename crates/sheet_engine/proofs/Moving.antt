@@ -9,7 +9,7 @@ use Rattle.sheet_meaning.specs.Support.{Cell, has_cell, cell_at}
 use Rattle.sheet_meaning.specs.Told.{is_lacking}
 use Rattle.sheet_meaning.specs.Workbook.{formula_cells}
 use Rattle.sheet_books.specs.declared.book.Contents.{Contents}
-use Rattle.sheet_state.specs.Kept.{Kept}
+use Rattle.sheet_state.specs.Stored.{Stored}
 use Rattle.sheet_engine_laws.specs.Chains.{Chained, LastReads}
 use Rattle.sheet_engine_laws.proofs.Settled.{chains_are_cycles}
 use Rattle.sheet_engine.specs.Seen.{workbook_of}
@@ -51,7 +51,7 @@ true_or_false : (t : Bool) → (t ≡ true) ⊎ (t ≡ false)
 true_or_false true = inl refl
 true_or_false false = inr refl
 
-module _ (b : Contents) (k : Kept) where
+module _ (b : Contents) (k : Stored) where
   module _ (fs : List Frame) (f : Frame) where
     -- what the last cell needs, it reads
     pub last_needs : (es : Entries) (y : Cell) → IsUnderWay b k es (fs ++ f ∷ []) → has_cell f.needs y ≡ true →
@@ -251,7 +251,7 @@ module _ (b : Contents) (k : Kept) where
         record { under_way = u; grows = grows_on es mid new a.grows grows; falls = omega arith }
 
 -- at first no cell is started
-pub nothing_started : (b : Contents) (k : Kept) (es : Entries) → es ≡ [] → IsUnderWay b k es []
+pub nothing_started : (b : Contents) (k : Stored) (es : Entries) → es ≡ [] → IsUnderWay b k es []
 nothing_started b k es e = subst (λ xs. IsUnderWay b k xs []) (sym e) none_yet
   where
     none_yet : IsUnderWay b k [] []

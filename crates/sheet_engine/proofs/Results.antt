@@ -19,7 +19,7 @@ use Rattle.sheet_meaning.proofs.Members.{IsIn}
 use Rattle.sheet_meaning.proofs.Cells.{has_in, in_has, added_in, from_cells}
 use Rattle.sheet_meaning.proofs.Keeping.{in_filter, from_filter}
 use Rattle.sheet_books.specs.declared.book.Contents.{Contents}
-use Rattle.sheet_state.specs.Kept.{Kept}
+use Rattle.sheet_state.specs.Stored.{Stored}
 use Rattle.sheet_eval.specs.declared.evaluation.Outcome.{Outcome}
 use Rattle.sheet_eval.specs.declared.evaluation.Outcome.TheVariants.{Known, Fault, Need}
 use Rattle.sheet_engine_laws.specs.Chains.{worked_out}
@@ -58,7 +58,7 @@ module _ (t : Told) (us : List Use) where
       let f = from_filter (lacks t) (used_cells us) y (⊎_elim (λ n. absurd n) (λ i. i) (from_cells [] (filter (lacks t) (used_cells us)) y h)) in
       (f.1, ⊎_elim (λ n. absurd n) (λ i. i) (from_cells [] (cells_in us) y f.0))
 
-module _ (b : Contents) (k : Kept) (served : IsServed b k) where
+module _ (b : Contents) (k : Stored) (served : IsServed b k) where
   -- what is no formula cell is a cycle
   not_there : (x : Cell) → is_there b k.present.state x.0 x.1 ≡ false → meaning (workbook_of b k) x.0 x.1 ≡ none
   not_there x h =

@@ -9,16 +9,16 @@ use Rattle.sheet_meaning.specs.Support.{Cell}
 use Rattle.sheet_meaning.specs.Workbook.{object_at, column_in}
 use Rattle.sheet_meaning.specs.declared.run.Use.{Use}
 use Rattle.sheet_meaning.specs.declared.workbook.Workbook.{Workbook}
-use Rattle.sheet_state.specs.Kept.{Kept}
+use Rattle.sheet_state.specs.Stored.{Stored}
 
 -- the book, the state with what undo keeps, and the formula cells whose results are kept
 pub record Seen : Type 0 where
   pub book : Contents
-  pub state : Kept
+  pub state : Stored
   pub kept : List Cell
 
 -- the workbook of a book and a state
-abbrev pub workbook_of : Contents → Kept → Workbook
+abbrev pub workbook_of : Contents → Stored → Workbook
 workbook_of b k = workbook (schema_of b) k.present.state
 
 -- the workbook as it is

@@ -12,7 +12,7 @@ use Rattle.sheet_meaning.specs.Rounds.{meaning, value_of}
 use Rattle.sheet_meaning.specs.Support.{Cell, has_cell, cells_read}
 use Rattle.sheet_meaning.specs.Told.{Told, is_lacking, world_told}
 use Rattle.sheet_meaning.specs.Workbook.{formula_cells}
-use Rattle.sheet_state.specs.Kept.{Kept, IsKept}
+use Rattle.sheet_state.specs.Stored.{Stored, IsStored}
 use Rattle.sheet_eval.specs.Answer.{IsAnswer}
 use Rattle.sheet_eval.specs.declared.evaluation.Outcome.{Outcome}
 use Rattle.sheet_eval.specs.declared.evaluation.Outcome.TheVariants.{Known, Fault, Need}
@@ -25,47 +25,47 @@ use Rattle.sheet_engine.specs.declared.standings.Standing.{Standing}
 use Rattle.sheet_engine.specs.declared.standings.Standing.TheVariants.{Started, Settled}
 
 -- a well-typed book, with a state of its columns
-pub record IsServed (b : Contents) (k : Kept) : Type 0 where
+pub record IsServed (b : Contents) (k : Stored) : Type 0 where
   pub typed : IsWellTyped b
-  pub kept : IsKept b.columns k
+  pub kept : IsStored b.columns k
 
 -- the results that are found in the workbook of a book and a state; what is no formula cell is a cycle
-abbrev pub found_of : Contents → Kept → Entries → Found
+abbrev pub found_of : Contents → Stored → Entries → Found
 found_of b k es = found_in b k.present.state none es
 
 -- what is told of a workbook with these results
-abbrev pub told_by : Contents → Kept → Entries → Told
+abbrev pub told_by : Contents → Stored → Entries → Told
 told_by b k es = told_of k.present.state (found_of b k es)
 
 -- the answer of an evaluation over them
-abbrev pub IsFoundAnswer : Contents → Kept → Entries → Core → Place → Variables → Outcome → Type 0
+abbrev pub IsFoundAnswer : Contents → Stored → Entries → Core → Place → Variables → Outcome → Type 0
 IsFoundAnswer b k es e p v a = IsAnswer (told_by b k es) (run e (world_told (told_by b k es)) p v) a
 
 -- whether a cell has no result yet
-abbrev pub Lacks : Contents → Kept → Entries → Cell → Type 0
+abbrev pub Lacks : Contents → Stored → Entries → Cell → Type 0
 Lacks b k es x = is_lacking (found_of b k es x.0 x.1) ≡ true
 
 -- results that are found are meanings
-abbrev pub ResultsHold : Contents → Kept → Entries → Type 0
+abbrev pub ResultsHold : Contents → Stored → Entries → Type 0
 ResultsHold b k es = (x : Cell) (r : Result_of (List Value)) → stands es x ≡ Some (Settled r) → r ≡ meaning (workbook_of b k) x.0 x.1
 
 -- some cells, all without a result
-pub record AreLacking (b : Contents) (k : Kept) (es : Entries) (cells : List Cell) : Type 0 where
+pub record AreLacking (b : Contents) (k : Stored) (es : Entries) (cells : List Cell) : Type 0 where
   pub some : cells ≡ [] → ⊥
   pub each : (y : Cell) → has_cell cells y ≡ true → Lacks b k es y
 
 -- a cell directly reads these
-abbrev pub ReadsAll : Contents → Kept → Cell → List Cell → Type 0
+abbrev pub ReadsAll : Contents → Stored → Cell → List Cell → Type 0
 ReadsAll b k x cells = (y : Cell) → has_cell cells y ≡ true → has_cell (cells_read (workbook_of b k) x) y ≡ true
 
 -- what a formula cell comes to: its meaning, or cells without a result that it reads
-abbrev pub CellComesTo : Contents → Kept → Entries → Cell → Outcome → Type 0
+abbrev pub CellComesTo : Contents → Stored → Entries → Cell → Outcome → Type 0
 CellComesTo b k es x (Known s) = meaning (workbook_of b k) x.0 x.1 ≡ Ok s
 CellComesTo b k es x (Fault e) = meaning (workbook_of b k) x.0 x.1 ≡ Err e
 CellComesTo b k es x (Need cells) = AreLacking b k es cells × ReadsAll b k x cells
 
 -- what an expression comes to: its value, or cells without a result
-abbrev pub ExpressionComesTo : Contents → Kept → Entries → Core → Place → Variables → Outcome → Type 0
+abbrev pub ExpressionComesTo : Contents → Stored → Entries → Core → Place → Variables → Outcome → Type 0
 ExpressionComesTo b k es e p v (Known s) = value_of (workbook_of b k) e p v ≡ Ok s
 ExpressionComesTo b k es e p v (Fault f) = value_of (workbook_of b k) e p v ≡ Err f
 ExpressionComesTo b k es e p v (Need cells) = AreLacking b k es cells
@@ -82,12 +82,12 @@ AreApart [] = Unit {0}
 AreApart (x ∷ xs) = (has_cell xs x ≡ true → ⊥) × AreApart xs
 
 -- a started cell is a formula cell, and reads what it needs
-pub record IsWaiting (b : Contents) (k : Kept) (f : Frame) : Type 0 where
+pub record IsWaiting (b : Contents) (k : Stored) (f : Frame) : Type 0 where
   pub there : is_there b k.present.state f.object f.column ≡ true
   pub needs : ReadsAll b k (cell_of f) f.needs
 
 -- results are meanings; the cells that wait are those of the frames, each once, and each directly reads the next
-pub record IsUnderWay (b : Contents) (k : Kept) (es : Entries) (fs : List Frame) : Type 0 where
+pub record IsUnderWay (b : Contents) (k : Stored) (es : Entries) (fs : List Frame) : Type 0 where
   pub results : ResultsHold b k es
   pub started : (x : Cell) → stands es x ≡ Some Started → has_cell (cells_started fs) x ≡ true
   pub starts : (x : Cell) → has_cell (cells_started fs) x ≡ true → stands es x ≡ Some Started
@@ -96,7 +96,7 @@ pub record IsUnderWay (b : Contents) (k : Kept) (es : Entries) (fs : List Frame)
   pub chained : Chained (workbook_of b k) (cells_started fs)
 
 -- a cell that may be started: the first one, or one that the last one reads
-abbrev pub MayStart : Contents → Kept → List Frame → Cell → Type 0
+abbrev pub MayStart : Contents → Stored → List Frame → Cell → Type 0
 MayStart b k fs x = (fs ≡ []) ⊎ LastReads (workbook_of b k) (cells_started fs) x
 
 -- how far a cell is, where all of these are cycles
@@ -104,11 +104,11 @@ abbrev pub closing : Entries → List Cell → Cell → Option Standing
 closing es cells x = if has_cell cells x then Some (Settled none) else stands es x
 
 -- what is left to do at all formula cells
-abbrev pub left : Contents → Kept → Entries → ℕ
+abbrev pub left : Contents → Stored → Entries → ℕ
 left b k es = left_at es (formula_cells (workbook_of b k))
 
 -- one step on: less is left to do
-pub record Advances (b : Contents) (k : Kept) (old new : Entries) (fs : List Frame) : Type 0 where
+pub record Advances (b : Contents) (k : Stored) (old new : Entries) (fs : List Frame) : Type 0 where
   pub under_way : IsUnderWay b k new fs
   pub grows : Grows old new
   pub falls : left b k new < left b k old

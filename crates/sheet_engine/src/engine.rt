@@ -9,7 +9,7 @@ ghost use Rattle.sheet_meaning.specs.Start.{start_state};
 ghost use Rattle.sheet_meaning.specs.Workbook.{object_at, column_in};
 ghost use Rattle.sheet_meaning.specs.WellFormed.{HoldsKind};
 ghost use Rattle.sheet_meaning.specs.declared.run.Use.TheVariants.{Cell};
-ghost use Rattle.sheet_state.specs.Kept.{schema_of as columns_alone, book as book_of};
+ghost use Rattle.sheet_state.specs.Stored.{schema_of as columns_alone, book as book_of};
 ghost use Rattle.sheet_state.specs.Limits.{first_full, Refuses};
 ghost use Rattle.sheet_engine.specs.Seen.{workbook_in, workbook_of, IsFormulaCell, keeps, keeps_after};
 ghost use Rattle.sheet_engine.specs.Standings.{stands, result_in};

@@ -1,8 +1,7 @@
 -- What a machine holds is always sound.
 use Rattle.std.specs.Prelude.{◌≡◌, ℕ, ◌<◌, ◌≤◌, length, sum_by, Option, Some, None}
 use Rattle.std.specs.List.{AllByRecursion}
-use Rattle.sheet_values.specs.declared.value.Value.{Value}
-use Rattle.sheet_values.specs.declared.value.Value.TheVariants.{Truth, Number, Text, Object}
+use Rattle.sheet_meaning.specs.Drawn.{IsDrawn}
 use Rattle.sheet_meaning.specs.Workbook.{object_at, column_in}
 use Rattle.sheet_meaning.specs.WellFormed.{IsWellFormed, IsFilled}
 use Rattle.sheet_meaning.specs.Statements.{value_weight, max_reply}
@@ -13,13 +12,6 @@ use Rattle.sheet_callers.specs.Callers.{Caller, KeptRequest}
 use Rattle.sheet_callers.specs.Sound.{AreCallers}
 use Rattle.sheet_machine_laws.specs.Act.{most_requests}
 use Rattle.sheet_machine_laws.specs.Machine.{Holding, Doubt, Machine, workbook_of}
-
--- an object that was drawn, or no object
-abbrev pub IsDrawn : ℕ → Value → Type 0
-IsDrawn next (Truth b) = Unit {0}
-IsDrawn next (Number n) = Unit {0}
-IsDrawn next (Text t) = Unit {0}
-IsDrawn next (Object o) = o < next
 
 -- an answer that was within the limit of a reply, and of drawn objects
 abbrev pub IsFitting : ℕ → Answer → Type 0

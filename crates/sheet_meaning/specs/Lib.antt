@@ -16,3 +16,4 @@ pub mod Start
 pub mod Procedure
 pub mod Courses
 pub mod Page
+pub mod Drawn

@@ -22,7 +22,7 @@ use Rattle.sheet_meaning.specs.declared.refusal.Which.{Which}
 use Rattle.sheet_meaning.specs.declared.workbook.LiveObject.{LiveObject}
 use Rattle.sheet_meaning.specs.declared.workbook.Schema.{Schema}
 use Rattle.sheet_meaning.specs.declared.workbook.State.{State}
-use Rattle.sheet_state.specs.Kept.{book}
+use Rattle.sheet_state.specs.Stored.{book}
 use Rattle.sheet_state.specs.Limits.{full_of, first_full}
 use Rattle.sheet_state.specs.Schemas.{Carries}
 use Rattle.sheet_state.proofs.Schemas.{formulas_dont_matter}

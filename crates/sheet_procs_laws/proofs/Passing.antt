@@ -5,6 +5,7 @@ use Rattle.std.specs.List.{AllByRecursion}
 use Rattle.std.proofs.lemmas.Bool.{ltb-false}
 use Rattle.sheet_values.specs.declared.value.Kind.{Kind}
 use Rattle.sheet_values.specs.declared.value.Value.{Value}
+use Rattle.sheet_meaning.specs.Drawn.{IsDrawn}
 use Rattle.sheet_meaning.specs.Run.{Outcome}
 use Rattle.sheet_meaning.specs.Statements.{Point, Changed, Course, keeping, at_end, where_known, next, with_value, ended, within, with_variable}
 use Rattle.sheet_meaning.specs.Statements.{is_present, still, changed, course_next, course_from, course_ended, course_turn, course_turns, workbook}
@@ -19,7 +20,7 @@ use Rattle.sheet_meaning.specs.declared.workbook.State.{State}
 use Rattle.sheet_engine_types.specs.Types.{HasKindWhereLive, IsVariableOf}
 use Rattle.sheet_engine_types.proofs.Given.{Gives, appended}
 use Rattle.sheet_engine_types.proofs.OneKind.{one_more}
-use Rattle.sheet_procs_laws.specs.Keeping.{IsDrawn, IsTypedPoint, IsFormedChange}
+use Rattle.sheet_procs_laws.specs.Keeping.{IsTypedPoint, IsFormedChange}
 use Rattle.sheet_procs_laws.proofs.Following.{Follows, follows_itself, follows_on, values_follow, set_drawn_still, drawn_still, kinds_still}
 
 module _ (s : Schema) where
@@ -138,16 +139,16 @@ module _ (s : Schema) where
   chosen_passes v t false c d g h = h
 
   pub with_variable_typed : (v : List Kind) (k : Kind) (p : Point) (set : List Value) → IsTypedPoint s v p → IsVariableOf p.state k set →
-      AllByRecursion (IsDrawn p.state) set → IsTypedPoint s (v ++ k ∷ []) (with_variable p set)
+      AllByRecursion (IsDrawn p.state.next) set → IsTypedPoint s (v ++ k ∷ []) (with_variable p set)
   with_variable_typed v k p set h g d = record {
     formed = h.formed;
     kinds = one_more p.state v p.variables k set h.kinds g;
-    drawn = appended (λ (x : List Value). AllByRecursion (IsDrawn p.state) x) p.variables (set ∷ []) h.drawn (d, tt);
+    drawn = appended (λ (x : List Value). AllByRecursion (IsDrawn p.state.next) x) p.variables (set ∷ []) h.drawn (d, tt);
   }
 
   -- the turns of a loop over values of a type
   module _ (v u : List Kind) (k : Kind) (body : Point → Course) (goes : (q : Point) → IsTypedPoint s (v ++ k ∷ []) q → Passes u q.state (body q)) where
-    turn_passes : (x : Value) (p : Point) → IsTypedPoint s v p → HasKindWhereLive p.state k x → IsDrawn p.state x → Passes v p.state (course_turn body x p)
+    turn_passes : (x : Value) (p : Point) → IsTypedPoint s v p → HasKindWhereLive p.state k x → IsDrawn p.state.next x → Passes v p.state (course_turn body x p)
     turn_passes x p h g d =
         let inside = goes (with_variable p (x ∷ [])) (with_variable_typed v k p (x ∷ []) h ((tt, tt), (g, tt)) (d, tt)) in
         let whole : Passes u p.state (body (with_variable p (x ∷ []))) = record { formed = inside.formed; ends = inside.ends } in
@@ -155,7 +156,7 @@ module _ (s : Schema) where
         (ended_passes v u p (body (with_variable p (x ∷ []))) h whole) (quiet v p p h refl)
 
     pub turns_pass : (xs : List Value) (p : Point) → IsTypedPoint s v p → AllByRecursion (HasKindWhereLive p.state k) xs →
-        AllByRecursion (IsDrawn p.state) xs → Passes v p.state (course_turns body xs p)
+        AllByRecursion (IsDrawn p.state.next) xs → Passes v p.state (course_turns body xs p)
     turns_pass [] p h g d = quiet v p p h refl
     turns_pass (x ∷ xs) p h g d =
         next_passes v v p.state (course_turn body x p) (course_turns body xs) (turn_passes x p h g.0 d.0)

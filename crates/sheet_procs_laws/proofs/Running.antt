@@ -15,13 +15,15 @@ use Rattle.sheet_columns.specs.declared.statement.Change.{Change as TheChange}
 use Rattle.sheet_columns.specs.declared.statement.CoreStatement.{CoreStatement, Let, Change, New, Delete, Check, If', For', Reply, Row_of-CoreStatement}
 use Rattle.sheet_columns.specs.declared.statement.CoreStatement.{end_of-CoreStatement as end, more_of-CoreStatement as more}
 use Rattle.sheet_columns.specs.declared.statement.Target.{Target}
+use Rattle.sheet_columns.specs.declared.tree.Column.TheVariants as column
 use Rattle.sheet_columns.specs.declared.tree.Node.{Node}
-use Rattle.sheet_types_rules.specs.Columns.{kinds_from}
+use Rattle.sheet_types_rules.specs.Columns.{is_known, kinds_from, IsHeldIn}
 use Rattle.sheet_types_rules.specs.Formulas.{kind_in, is_object, is_state, ◌>>◌}
 use Rattle.sheet_types_rules.specs.Statements.{where_so, suits, is_placed, is_deletable, changes_state, makes_object, behind, behind_all, behind_list}
 use Rattle.sheet_meaning.specs.Arguments.{AreArguments}
 use Rattle.sheet_meaning.specs.Changes.{changed_set, with_set, with_object, without_object}
 use Rattle.sheet_meaning.specs.Courses.{Lead}
+use Rattle.sheet_meaning.specs.Drawn.{IsDrawn}
 use Rattle.sheet_meaning.specs.Formula.{object_in, objects_of, truth}
 use Rattle.sheet_meaning.specs.Procedure.{beginning, course_of_allow, refuse_unfilled, test_filled, course_of_procedure}
 use Rattle.sheet_meaning.specs.Run.{both, the_one}
@@ -39,14 +41,14 @@ use Rattle.sheet_meaning.specs.declared.workbook.State.{State}
 use Rattle.sheet_meaning.specs.declared.workbook.Workbook.{Workbook}
 use Rattle.sheet_meaning.proofs.Leading.{statements_are_courses, procedures_are_courses}
 use Rattle.sheet_meaning.proofs.Members.{both_true}
-use Rattle.sheet_books.specs.Books.{is_known, kinds_at_start}
+use Rattle.sheet_books.specs.Books.{kinds_at_start}
 use Rattle.sheet_books.specs.Schemas.{schema_of}
 use Rattle.sheet_engine_types.specs.Types.{IsSetOf, IsVariableOf, HaveKinds}
 use Rattle.sheet_engine_types.proofs.Contents.{object_there, state_there}
 use Rattle.sheet_engine_types.proofs.Given.{Gives, Any, any, Both, both_given, finished, appended}
 use Rattle.sheet_engine_types.proofs.OneKind.{came, becomes, where_live, set_where_live}
 use Rattle.sheet_engine_types.proofs.Rounds.{values_have_kinds}
-use Rattle.sheet_procs_laws.specs.Keeping.{IsDrawn, AreDrawn, IsSoundSchema, IsTypedPoint, IsFormedChange, IsCallerIn}
+use Rattle.sheet_procs_laws.specs.Keeping.{AreDrawn, KnowsStates, IsSoundSchema, IsTypedPoint, IsFormedChange, IsCallerIn}
 use Rattle.sheet_procs_laws.specs.Keeping.{StatementsStayWellFormed, ProceduresLeaveWellFormed}
 use Rattle.sheet_procs_laws.proofs.Changing.{stored, born, newborn, removed, below_root}
 use Rattle.sheet_procs_laws.proofs.Following.{follows_itself, follows_on, set_drawn, drawn_still, kinds_still}
@@ -377,7 +379,7 @@ arguments_typed w formed (p ∷ ps) (v ∷ vs) h =
 
 -- so is the caller
 caller_typed : (s : State) (callers : ℕ) (o : Option ℕ) → IsCallerIn s callers o →
-    IsVariableOf s (kind.Object callers) (objects_of o) × AllByRecursion (IsDrawn s) (objects_of o)
+    IsVariableOf s (kind.Object callers) (objects_of o) × AllByRecursion (IsDrawn s.next) (objects_of o)
 caller_typed s callers None h = ((tt, tt), tt)
 caller_typed s callers (Some o) h = (((tt, tt), (h.1, tt)), (h.0, tt))
 
@@ -406,11 +408,19 @@ went_on : (r : Result Point Refusal) (f : Point → Result Point Refusal) (q : P
 went_on (Ok p) f q e = (p, e)
 went_on (Err x) f q e = cc
 
+-- the types of state columns are known where columns hold what is in the tree
+knows_states : (nodes ms : List Node) → AllByRecursion (λ (n : Node). IsHeldIn nodes n.column) ms → KnowsStates ms
+knows_states nodes [] held c k one first is = cc
+knows_states nodes (m ∷ ms) held zero k one first is =
+    let same : m.column ≡ column.State k one first = cc in
+    (subst (IsHeldIn nodes) same held.0).1
+knows_states nodes (m ∷ ms) held (suc c) k one first is = knows_states nodes ms held.1 c k one first is
+
 pub procedures_leave_well_formed : ProceduresLeaveWellFormed
-procedures_leave_well_formed b p caller arguments state kept typed tree states procedure formed calls fit =
+procedures_leave_well_formed b p caller arguments state kept typed tree procedure formed calls fit =
     let s = schema_of b in
     let w = workbook s state in
-    let sound : IsSoundSchema s = record { tree = tree; states = states; formulas = books_are_typed b typed } in
+    let sound : IsSoundSchema s = record { tree = tree; states = knows_states b.columns b.columns typed.columns; formulas = books_are_typed b typed } in
     let v = kinds_at_start b.callers p.parameters in
     let start = beginning caller arguments state kept in
     let c = course_of_procedure s p.allow (statements_in p.body) caller arguments state kept in

@@ -3,12 +3,11 @@ use Rattle.std.proofs.Common.{◌≡◌, refl, ap, sym, ◌∙◌, subst, ⊎_el
 use Rattle.std.specs.Prelude.{is_some}
 use Rattle.sheet_values.specs.declared.value.Kind.{Kind}
 use Rattle.sheet_values.specs.declared.value.Kind.TheVariants as kind
-use Rattle.sheet_types_rules.specs.Columns.{kinds_from, home}
+use Rattle.sheet_types_rules.specs.Columns.{is_known, kinds_from, home}
 use Rattle.sheet_types_rules.specs.Formulas.{kind_in, serves, ◌>>◌}
 use Rattle.sheet_types_rules.specs.Kinds.{common}
 use Rattle.sheet_types_rules.specs.Statements.{suits}
 use Rattle.sheet_meaning.proofs.Columns.{all_from}
-use Rattle.sheet_books.specs.Books.{is_known}
 use Rattle.sheet_books.specs.Schemas.{schema_of}
 use Rattle.sheet_procs_laws.proofs.FormulaLemmas.{formulas_typed}
 use Rattle.sheet_engine_types.specs.Types.{FitsItsColumn}

@@ -3,14 +3,14 @@ use Rattle.std.specs.Prelude.{◌≡◌, ℕ, ◌<◌, Bool, true, List, Option,
 use Rattle.std.specs.List.{AllByRecursion}
 use Rattle.sheet_values.specs.declared.value.Kind.{Kind}
 use Rattle.sheet_values.specs.declared.value.Value.{Value}
-use Rattle.sheet_values.specs.declared.value.Value.TheVariants.{Truth, Number, Text, Object}
 use Rattle.sheet_columns.specs.Statements.{statements_in}
 use Rattle.sheet_columns.specs.Tree.{column_of, IsTree}
 use Rattle.sheet_columns.specs.declared.statement.CoreStatement.{CoreStatement}
 use Rattle.sheet_columns.specs.declared.tree.Column.TheVariants as column
 use Rattle.sheet_columns.specs.declared.tree.Node.{Node}
-use Rattle.sheet_types_rules.specs.Columns.{kinds_from}
+use Rattle.sheet_types_rules.specs.Columns.{is_known, kinds_from}
 use Rattle.sheet_types_rules.specs.Statements.{behind_list}
+use Rattle.sheet_meaning.specs.Drawn.{IsDrawn}
 use Rattle.sheet_meaning.specs.Arguments.{AreArguments}
 use Rattle.sheet_meaning.specs.Formula.{Variables}
 use Rattle.sheet_meaning.specs.Procedure.{course_of_procedure}
@@ -21,22 +21,15 @@ use Rattle.sheet_meaning.specs.Workbook.{object_at, column_in}
 use Rattle.sheet_meaning.specs.declared.workbook.Caller.{Caller}
 use Rattle.sheet_meaning.specs.declared.workbook.Schema.{Schema}
 use Rattle.sheet_meaning.specs.declared.workbook.State.{State}
-use Rattle.sheet_books.specs.Books.{is_known, IsWellTyped, IsWellTypedProcedure}
+use Rattle.sheet_books.specs.Books.{IsWellTyped, IsWellTypedProcedure}
 use Rattle.sheet_books.specs.Schemas.{schema_of}
 use Rattle.sheet_books.specs.declared.body.Procedure.{Procedure}
 use Rattle.sheet_books.specs.declared.book.Contents.{Contents}
 use Rattle.sheet_engine_types.specs.Types.{HaveKinds, IsTypedSchema}
 
--- the number of an object was drawn
-abbrev pub IsDrawn : State → Value → Type 0
-IsDrawn s (Truth b) = Unit {0}
-IsDrawn s (Number n) = Unit {0}
-IsDrawn s (Text t) = Unit {0}
-IsDrawn s (Object o) = o < s.next
-
--- so were those of all objects in variables
+-- the numbers of all objects in variables were drawn
 abbrev pub AreDrawn : State → Variables → Type 0
-AreDrawn s sets = AllByRecursion (λ (set : List Value). AllByRecursion (IsDrawn s) set) sets
+AreDrawn s sets = AllByRecursion (λ (set : List Value). AllByRecursion (IsDrawn s.next) set) sets
 
 -- the type of each state column is known
 abbrev pub KnowsStates : List Node → Type 0
@@ -91,7 +84,6 @@ ProceduresLeaveWellFormed =
     (b : Contents) (p : Procedure) (caller : Caller) (arguments : List Value) (state : State) (kept : List Cell)
     → IsWellTyped b
     → IsTree b.columns
-    → KnowsStates b.columns
     → IsWellTypedProcedure b.columns b.callers p
     → IsWellFormed (workbook (schema_of b) state)
     → IsCallerIn state b.callers caller.object

@@ -29,7 +29,7 @@ use Rattle.sheet_meaning.specs.declared.workbook.StoredCell.{StoredCell}
 use Rattle.sheet_meaning.proofs.Columns.{all_map, all_from}
 use Rattle.sheet_meaning.specs.declared.workbook.State.{State}
 use Rattle.sheet_state.specs.Births.{new_cell, new_extent, formula_columns, is_formula, firsts}
-use Rattle.sheet_state.specs.Kept.{schema_of, book, as_formula, as_extent, object_columns}
+use Rattle.sheet_state.specs.Stored.{schema_of, book, as_formula, as_extent, object_columns}
 use Rattle.sheet_state.specs.Rows.{cells_in, objects_in, object_of, row_cmp}
 use Rattle.sheet_state.proofs.WithSet.{all_mono}
 use Rattle.sheet_state.proofs.WithObject.{all_both}

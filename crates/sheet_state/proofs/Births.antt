@@ -15,7 +15,7 @@ use Rattle.sheet_state_rows.specs.Rows.{Table}
 use Rattle.sheet_meaning.specs.WellFormed.{StateColumn, as_state, state_columns}
 use Rattle.sheet_state.specs.Births.{child_at, state_at, extent_at, formula_at, is_formula, formula_columns, new_cell, new_extent, item_of, with_items}
 use Rattle.sheet_state.specs.Births.{with_rows}
-use Rattle.sheet_state.specs.Kept.{schema_of, as_extent, object_columns}
+use Rattle.sheet_state.specs.Stored.{schema_of, as_extent, object_columns}
 
 take_next : {A : Type 0} (xs : List A) (k : ℕ) (y : A) → slice_get xs k ≡ Some y → take (suc k) xs ≡ take k xs ++ y ∷ []
 take_next [] k y e = cc

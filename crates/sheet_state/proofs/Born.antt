@@ -28,7 +28,7 @@ use Rattle.sheet_meaning.specs.declared.workbook.StoredCell.{StoredCell}
 use Rattle.sheet_meaning.specs.declared.workbook.State.{State}
 use Rattle.sheet_meaning.proofs.Members.{IsIn, both_true}
 use Rattle.sheet_state.specs.Births.{new_cell, new_extent, new_object_row, set_at, born, born_items, formula_columns, firsts}
-use Rattle.sheet_state.specs.Kept.{schema_of, book, object_columns, extents_of, IsMoment, AreChanged}
+use Rattle.sheet_state.specs.Stored.{schema_of, book, object_columns, extents_of, IsMoment, AreChanged}
 use Rattle.sheet_state.specs.Limits.{full_of, first_full}
 use Rattle.sheet_state.specs.Rows.{cells_in, objects_in, state_of, moment, object_cmp, is_set, IsSound}
 use Rattle.sheet_state.proofs.Lookups.{FirstAt, first_read, set_found, none_at}

@@ -19,7 +19,7 @@ use Rattle.sheet_meaning.proofs.Members.{both_true}
 use Rattle.sheet_state_references.specs.Below.{has}
 use Rattle.sheet_state_references.specs.declared.references.Reference.{Reference}
 use Rattle.sheet_state.specs.Deaths.{is_doomed, buried, swept}
-use Rattle.sheet_state.specs.Kept.{IsMoment}
+use Rattle.sheet_state.specs.Stored.{IsMoment}
 use Rattle.sheet_state.specs.Places.{Fits, Adds, OfAny, IsRowOf, IsOwnRow, RefersTo, IsHomeOf, Covers, IsListedRow, IsListed, AreObjects}
 use Rattle.sheet_state.specs.Rows.{is_set, object_cmp, objects_in, moment, IsSound}
 use Rattle.sheet_state.proofs.Underneath.{all_at, object_placed, set_placed, row_child, in_live}

@@ -17,7 +17,7 @@ use Rattle.sheet_meaning.specs.declared.workbook.LiveObject.{LiveObject}
 use Rattle.sheet_meaning.specs.declared.workbook.StoredCell.{StoredCell}
 use Rattle.sheet_meaning.specs.declared.workbook.State.{State}
 use Rattle.sheet_meaning.proofs.Members.{IsIn, in_flat_map, in_filter_map}
-use Rattle.sheet_state.specs.Kept.{schema_of, book, as_extent, object_columns, extents_of}
+use Rattle.sheet_state.specs.Stored.{schema_of, book, as_extent, object_columns, extents_of}
 use Rattle.sheet_state.specs.Rows.{cells_in, is_set}
 use Rattle.sheet_state.proofs.SetRows.{at}
 

@@ -17,7 +17,7 @@ use Rattle.sheet_meaning.specs.declared.workbook.LiveObject.{LiveObject}
 use Rattle.sheet_meaning.proofs.Members.{IsIn, both_true}
 use Rattle.sheet_state_references.specs.Below.{GoesDown, AreFamilies, has}
 use Rattle.sheet_state_references.proofs.Numbers.{ties, ties_turned}
-use Rattle.sheet_state.specs.Kept.{IsMoment}
+use Rattle.sheet_state.specs.Stored.{IsMoment}
 use Rattle.sheet_state.specs.Places.{AreSmall, AreObjects}
 use Rattle.sheet_state.specs.Removals.{without_all, AreLive}
 use Rattle.sheet_state.specs.Rows.{objects_in, state_of, moment, IsSound}

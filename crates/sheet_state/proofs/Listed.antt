@@ -24,7 +24,7 @@ use Rattle.sheet_state_references.specs.declared.references.Reference.{Reference
 use Rattle.sheet_state_references.proofs.Between.{stays}
 use Rattle.sheet_state.specs.Births.{new_cell}
 use Rattle.sheet_state.specs.Deaths.{swept}
-use Rattle.sheet_state.specs.Kept.{schema_of}
+use Rattle.sheet_state.specs.Stored.{schema_of}
 use Rattle.sheet_state.specs.Places.{IsListedRow, IsListed}
 use Rattle.sheet_state.proofs.Underneath.{all_in}
 use Rattle.sheet_state.proofs.WithObject.{all_both}

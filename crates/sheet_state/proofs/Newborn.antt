@@ -27,7 +27,7 @@ use Rattle.sheet_meaning.specs.declared.workbook.StoredCell.{StoredCell}
 use Rattle.sheet_meaning.specs.declared.workbook.State.{State}
 use Rattle.sheet_meaning.proofs.Members.{IsIn, both_true}
 use Rattle.sheet_state.specs.Births.{item_of, first_item, with_items, born_items}
-use Rattle.sheet_state.specs.Kept.{schema_of, book, AreChanged}
+use Rattle.sheet_state.specs.Stored.{schema_of, book, AreChanged}
 use Rattle.sheet_state.proofs.WithSet.{item_is, item_itself, not_changed, sets_differ}
 use Rattle.sheet_state.proofs.WithObject.{found_kept, not_found, unborn}
 

@@ -6,7 +6,7 @@ use Rattle.sheet_meaning.specs.WellFormed.{IsUnder}
 use Rattle.sheet_meaning.specs.declared.workbook.LiveObject.{LiveObject}
 use Rattle.sheet_meaning.proofs.Members.{IsIn}
 use Rattle.sheet_state_references.specs.Below.{Descends}
-use Rattle.sheet_state.specs.Kept.{book, IsMoment}
+use Rattle.sheet_state.specs.Stored.{book, IsMoment}
 use Rattle.sheet_state.specs.Rows.{objects_in, state_of, moment, IsSound}
 use Rattle.sheet_state.proofs.Underneath.{all_in, up_child}
 

@@ -14,7 +14,7 @@ use Rattle.sheet_meaning.specs.declared.workbook.LiveObject.{LiveObject}
 use Rattle.sheet_meaning.specs.declared.workbook.StoredCell.{StoredCell}
 use Rattle.sheet_meaning.specs.declared.workbook.State.{State}
 use Rattle.sheet_meaning.proofs.Members.{both_true}
-use Rattle.sheet_state.specs.Kept.{book}
+use Rattle.sheet_state.specs.Stored.{book}
 use Rattle.sheet_state.specs.Removals.{without_live, without_all}
 use Rattle.sheet_state.proofs.Existing.{live_in}
 use Rattle.sheet_state.proofs.Family.{has_more}

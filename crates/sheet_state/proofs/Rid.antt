@@ -21,7 +21,7 @@ use Rattle.sheet_meaning.specs.declared.workbook.StoredCell.{StoredCell}
 use Rattle.sheet_meaning.proofs.Columns.{all_map}
 use Rattle.sheet_meaning.specs.declared.workbook.State.{State}
 use Rattle.sheet_state.specs.Deaths.{is_doomed, buried, swept, lost_cells, rid_of}
-use Rattle.sheet_state.specs.Kept.{book, object_columns, extents_of, IsMoment}
+use Rattle.sheet_state.specs.Stored.{book, object_columns, extents_of, IsMoment}
 use Rattle.sheet_state.specs.Rows.{objects_in, cells_in, state_of, moment, row_cmp, object_cmp, IsSound}
 use Rattle.sheet_state.proofs.Existing.{key}
 use Rattle.sheet_state.proofs.Family.{Knows}

@@ -12,7 +12,7 @@ use Rattle.sheet_meaning.specs.declared.workbook.Schema.{Schema}
 use Rattle.sheet_meaning.specs.declared.workbook.State.{State}
 use Rattle.sheet_columns.specs.declared.tree.Column.{Column}
 use Rattle.sheet_columns.specs.declared.tree.Column.TheVariants as column
-use Rattle.sheet_state.specs.Kept.{as_formula as formula_in, schema_of, book}
+use Rattle.sheet_state.specs.Stored.{as_formula as formula_in, schema_of, book}
 use Rattle.sheet_state.specs.Limits.{full_of}
 use Rattle.sheet_state.specs.Schemas.{workbook, Carries, FormulasDontMatter, WorldsTellItems}
 

@@ -11,7 +11,7 @@ use Rattle.sheet_meaning.specs.Changes.{with_set}
 use Rattle.sheet_meaning.specs.Workbook.{set_in, object_at, column_in}
 use Rattle.sheet_meaning.specs.WellFormed.{HoldsKind, IsWellFormed, stored_values, max_objects, max_cells, max_values, max_number}
 use Rattle.sheet_meaning.specs.declared.refusal.Which.TheVariants.{Objects, Cells, Values, Numbers}
-use Rattle.sheet_state.specs.Kept.{book, IsMoment}
+use Rattle.sheet_state.specs.Stored.{book, IsMoment}
 use Rattle.sheet_state.specs.Limits.{full_of, first_full}
 use Rattle.sheet_state.specs.Rows.{cells_in, state_of, moment, is_set, IsSound}
 use Rattle.sheet_state.proofs.Lookups.{FirstAt, none_at, set_found}

@@ -18,7 +18,7 @@ use Rattle.sheet_meaning.specs.declared.workbook.LiveObject.{LiveObject}
 use Rattle.sheet_meaning.specs.declared.workbook.StoredCell.{StoredCell}
 use Rattle.sheet_meaning.specs.declared.workbook.State.{State}
 use Rattle.sheet_state.specs.Births.{new_cell, new_extent, with_rows, formula_columns, firsts}
-use Rattle.sheet_state.specs.Kept.{schema_of, book, object_columns, extents_of, IsMoment}
+use Rattle.sheet_state.specs.Stored.{schema_of, book, object_columns, extents_of, IsMoment}
 use Rattle.sheet_state.specs.Rows.{state_of, moment, IsSound}
 use Rattle.sheet_state.proofs.Existing.{key}
 use Rattle.sheet_state.proofs.Schemas.{formulas_there}

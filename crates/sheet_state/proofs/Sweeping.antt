@@ -23,7 +23,7 @@ use Rattle.sheet_meaning.specs.WellFormed.{state_columns}
 use Rattle.sheet_meaning.proofs.Members.{both_true}
 use Rattle.sheet_state.specs.Births.{with_items, formula_columns}
 use Rattle.sheet_state.specs.Deaths.{is_doomed, buried, swept, swept_items, lost, lost_objects, lost_cells}
-use Rattle.sheet_state.specs.Kept.{schema_of}
+use Rattle.sheet_state.specs.Stored.{schema_of}
 use Rattle.sheet_state.specs.Places.{Fits}
 use Rattle.sheet_state_references.proofs.Searched.{right, nat_less}
 

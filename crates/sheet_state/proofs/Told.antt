@@ -26,7 +26,7 @@ use Rattle.sheet_meaning.specs.declared.workbook.StoredCell.{StoredCell}
 use Rattle.sheet_meaning.specs.declared.workbook.State.{State}
 use Rattle.sheet_state.specs.Births.{with_items}
 use Rattle.sheet_state.specs.Deaths.{live_items, up_items, swept, swept_items, lost, rid_items}
-use Rattle.sheet_state.specs.Kept.{IsMoment, AreChanged}
+use Rattle.sheet_state.specs.Stored.{IsMoment, AreChanged}
 use Rattle.sheet_state.specs.Rows.{live_cell, objects_in, cells_in, state_of, moment, row_cmp, is_set, IsSound}
 use Rattle.sheet_state.proofs.Family.{Knows, knows_number}
 use Rattle.sheet_state.proofs.Itemized.{live_told, up_told, no_lives, no_ups}

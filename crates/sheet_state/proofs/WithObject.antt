@@ -22,7 +22,7 @@ use Rattle.sheet_meaning.specs.declared.workbook.LiveObject.{LiveObject}
 use Rattle.sheet_meaning.specs.declared.workbook.StoredCell.{StoredCell}
 use Rattle.sheet_meaning.specs.declared.workbook.State.{State}
 use Rattle.sheet_meaning.proofs.Columns.{all_in, all_from, all_map, new_typed}
-use Rattle.sheet_state.specs.Kept.{schema_of, book}
+use Rattle.sheet_state.specs.Stored.{schema_of, book}
 use Rattle.sheet_state.specs.Limits.{full_of, first_full}
 use Rattle.sheet_state.proofs.Back.{all_push}
 use Rattle.sheet_state.proofs.Existing.{key, live_in, some_of}

@@ -26,7 +26,7 @@ use Rattle.sheet_meaning.specs.Workbook.{object_at, column_in, set_in}
 use Rattle.sheet_meaning.specs.WellFormed.{HasKind, HoldsKind, IsWellFormed, stored_values, max_values}
 use Rattle.sheet_meaning.specs.declared.workbook.StoredCell.{StoredCell}
 use Rattle.sheet_meaning.specs.declared.workbook.State.{State}
-use Rattle.sheet_state.specs.Kept.{book, AreChanged}
+use Rattle.sheet_state.specs.Stored.{book, AreChanged}
 use Rattle.sheet_state.proofs.SetRows.{both, set_of}
 use Rattle.sheet_state.proofs.Existing.{key}
 use Rattle.sheet_state_references.proofs.Inserted.{tie}

@@ -28,7 +28,7 @@ use Rattle.sheet_meaning.specs.declared.workbook.LiveObject.{LiveObject}
 use Rattle.sheet_meaning.specs.declared.workbook.StoredCell.{StoredCell}
 use Rattle.sheet_meaning.specs.declared.workbook.State.{State}
 use Rattle.sheet_state.specs.Births.{formula_columns}
-use Rattle.sheet_state.specs.Kept.{schema_of, book}
+use Rattle.sheet_state.specs.Stored.{schema_of, book}
 use Rattle.sheet_state.proofs.Bearing.{formulas_counted}
 use Rattle.sheet_state.proofs.Existing.{key}
 use Rattle.sheet_state.proofs.Family.{has_more}

@@ -18,7 +18,7 @@ use Rattle.sheet_state_rows.specs.declared.row.ObjectRow.{ObjectRow}
 use Rattle.sheet_state_rows.specs.Rows.{Table, with_objects, with_cells, with_extents, with_counters}
 use Rattle.sheet_meaning.specs.Changes.{first_set}
 use Rattle.sheet_meaning.specs.WellFormed.{StateColumn, as_state, state_columns}
-use Rattle.sheet_state.specs.Kept.{schema_of, as_extent, object_columns}
+use Rattle.sheet_state.specs.Stored.{schema_of, as_extent, object_columns}
 
 -- the column with a number, where it stands directly under this one
 abbrev pub child_at : List Node → ℕ → ℕ → Option Column

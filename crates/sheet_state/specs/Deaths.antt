@@ -15,7 +15,7 @@ use Rattle.sheet_meaning.specs.Workbook.{object_at, column_in, parent_in}
 use Rattle.sheet_meaning.specs.WellFormed.{state_columns}
 use Rattle.sheet_meaning.specs.declared.workbook.LiveObject.{LiveObject}
 use Rattle.sheet_state.specs.Births.{with_items, formula_columns}
-use Rattle.sheet_state.specs.Kept.{schema_of}
+use Rattle.sheet_state.specs.Stored.{schema_of}
 use Rattle.sheet_state.specs.Rows.{objects_in}
 
 -- whether a row is that of a live object among these

@@ -1,4 +1,4 @@
-pub mod Kept
+pub mod Stored
 pub mod Limits
 pub mod Rows
 pub mod Places

@@ -12,7 +12,7 @@ use Rattle.sheet_meaning.specs.WellFormed.{stored_values}
 use Rattle.sheet_meaning.specs.declared.workbook.LiveObject.{LiveObject}
 use Rattle.sheet_meaning.specs.declared.workbook.StoredCell.{StoredCell}
 use Rattle.sheet_meaning.specs.declared.workbook.State.{State}
-use Rattle.sheet_state.specs.Kept.{Moment}
+use Rattle.sheet_state.specs.Stored.{Moment}
 
 -- the object of a row
 abbrev pub object_of : ObjectRow → LiveObject

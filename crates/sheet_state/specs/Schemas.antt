@@ -10,7 +10,7 @@ use Rattle.sheet_values.specs.declared.value.Value.{Value}
 use Rattle.sheet_meaning.specs.declared.workbook.Schema.{Schema}
 use Rattle.sheet_meaning.specs.declared.workbook.State.{State}
 use Rattle.sheet_meaning.specs.declared.workbook.Workbook.{Workbook}
-use Rattle.sheet_state.specs.Kept.{schema_of, book}
+use Rattle.sheet_state.specs.Stored.{schema_of, book}
 use Rattle.sheet_state.specs.Limits.{first_full}
 
 -- the schema has these columns, and a formula for each of their formula columns, in order

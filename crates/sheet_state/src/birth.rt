@@ -6,7 +6,7 @@ ghost use Rattle.sheet_columns.specs.Tree.{IsTree};
 ghost use Rattle.sheet_meaning.specs.Changes.{first_set};
 ghost use Rattle.sheet_meaning.specs.WellFormed.{state_columns};
 ghost use Rattle.sheet_state.specs.Births.{child_at, state_at, extent_at, formula_at, formula_columns, item_of, with_items, with_rows, firsts};
-ghost use Rattle.sheet_state.specs.Kept.{schema_of, object_columns};
+ghost use Rattle.sheet_state.specs.Stored.{schema_of, object_columns};
 
 use sheet_columns::{Column, Columns, Item, Items};
 use sheet_state_rows::{SetRow, Tables};

@@ -6,7 +6,7 @@ ghost use Rattle.sheet_values.specs.declared.value.Value.TheVariants.{Object};
 ghost use Rattle.sheet_columns.specs.declared.tree.Node.{Node};
 ghost use Rattle.sheet_state_references.specs.Below.{has, NeverFalls};
 ghost use Rattle.sheet_state.specs.Deaths.{buried, swept};
-ghost use Rattle.sheet_state.specs.Kept.{IsMoment};
+ghost use Rattle.sheet_state.specs.Stored.{IsMoment};
 ghost use Rattle.sheet_state.specs.Places.{Adds, OfAny, IsRowOf, IsOwnRow, RefersTo, IsHomeOf, Covers, IsListed, AreSmall, AreObjects};
 ghost use Rattle.sheet_state.specs.Rows.{object_cmp, row_cmp, is_set, moment, IsSound};
 

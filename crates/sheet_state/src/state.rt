@@ -15,7 +15,7 @@ ghost use Rattle.sheet_meaning.specs.Workbook.{object_at, column_in, parent_in, 
 ghost use Rattle.sheet_meaning.specs.WellFormed.{HoldsKind};
 ghost use Rattle.sheet_state.specs.Births.{born, born_items, live_row, set_at};
 ghost use Rattle.sheet_state.specs.Deaths.{buried, swept, rid_of, rid_items};
-ghost use Rattle.sheet_state.specs.Kept.{IsKept, AreChanged, schema_of, book};
+ghost use Rattle.sheet_state.specs.Stored.{IsStored, AreChanged, schema_of, book};
 ghost use Rattle.sheet_state.specs.Places.{Covers, IsListed};
 ghost use Rattle.sheet_state_references.specs.declared.references.Reference.{Reference};
 ghost use Rattle.sheet_state.specs.Rows.{IsSound, moment, objects_in, cells_in, object_cmp, row_cmp};
@@ -61,11 +61,11 @@ pub struct State {
 impl Model for State {
     ghost use Rattle.std.specs.Prelude.{◌≡◌, [], map};
     ghost use Rattle.std.specs.List.{AllByRecursion};
-    ghost use Rattle.sheet_state.specs.Kept.{Kept};
+    ghost use Rattle.sheet_state.specs.Stored.{Stored};
     ghost use Rattle.sheet_state.specs.Places.{IsListed};
     ghost use Rattle.sheet_state.specs.Rows.{moment, IsSound};
 
-    ghost Value = { Kept };
+    ghost Value = { Stored };
 
     ghost view = { λ s. record { present = moment s.tables.present; earlier = map moment s.tables.earlier } };
 
@@ -77,7 +77,7 @@ impl State {
     pub fn new(alloc: Global, columns: &Columns) -> Result<State, NoMemory>
         ensures state { IfOk result (λ s. s.present.state ≡ start_state (schema_of columns.now)) }
         ensures earlier { IfOk result (λ s. s.earlier ≡ []) }
-        ensures kept { IfOk result (λ s. IsKept columns.now s) }
+        ensures kept { IfOk result (λ s. IsStored columns.now s) }
     {
         let weight = weight_of(columns, 0);
         let counters = Counters {
@@ -112,7 +112,7 @@ impl State {
         column: u32,
         set: Set,
     ) -> Result<Items, StateRefusal>
-        requires kept { IsKept columns.now self.old }
+        requires kept { IsStored columns.now self.old }
         requires live { IsSome (object_at self.old.present.state.objects object) }
         requires under { column_in (object_at self.old.present.state.objects object) ≡ above_of columns.now column }
         requires typed { HoldsKind self.old.present.state (record { object = object; column = column; set = set }) (column_of columns.now column) }
@@ -122,7 +122,7 @@ impl State {
         ensures full { IfErr result (Refuses (first_full (book columns.now (with_set self.old.present.state object column set)))) }
         ensures earlier { OnOk result (self.new.earlier ≡ self.old.earlier ++ self.old.present ∷ []) }
         ensures unchanged { OnErr result (self.new ≡ self.old) }
-        ensures kept { IsKept columns.now self.new }
+        ensures kept { IsStored columns.now self.new }
     {
         let counters = self.tables.counters();
         let place = match set_place(self.tables.cells(), object, column) {
@@ -159,7 +159,7 @@ impl State {
         column: u32,
         parent: u64,
     ) -> Result<(u64, Items), StateRefusal>
-        requires kept { IsKept columns.now self.old }
+        requires kept { IsStored columns.now self.old }
         requires live { IsSome (object_at self.old.present.state.objects parent) }
         requires under { column_in (object_at self.old.present.state.objects parent) ≡ above_of columns.now column }
         requires object_column { column_of columns.now column ≡ Some object_column }
@@ -170,7 +170,7 @@ impl State {
         ensures full { IfErr result (Refuses (first_full (book columns.now (with_object (schema_of columns.now) self.old.present.state column parent)))) }
         ensures earlier { OnOk result (self.new.earlier ≡ self.old.earlier ++ self.old.present ∷ []) }
         ensures unchanged { OnErr result (self.new ≡ self.old) }
-        ensures kept { IsKept columns.now self.new }
+        ensures kept { IsStored columns.now self.new }
     {
         let counters = self.tables.counters();
         let weight = weight_of(columns, column);
@@ -202,14 +202,14 @@ impl State {
     /// Takes a live object other than the root away, with every object below it, and every reference to them out of all state
     /// cells; the items whose content this changed. Nothing changes after the refusal.
     pub fn delete(&mut self, columns: &Columns, object: u64) -> Result<Items, NoMemory>
-        requires kept { IsKept columns.now self.old }
+        requires kept { IsStored columns.now self.old }
         requires live { IsSome (object_at self.old.present.state.objects object) }
         requires not_root { 0 < object }
         ensures state { OnOk result (self.new.present.state ≡ without_object self.old.present.state object) }
         ensures changed { IfOk result (λ items. AreChanged self.old.present.state self.new.present.state items) }
         ensures earlier { OnOk result (self.new.earlier ≡ self.old.earlier ++ self.old.present ∷ []) }
         ensures unchanged { OnErr result (self.new ≡ self.old) }
-        ensures kept { IsKept columns.now self.new }
+        ensures kept { IsStored columns.now self.new }
     {
         let objects = Set::one(self.alloc, Value::Object(object))?;
         self.delete_all(columns, &objects)
@@ -219,13 +219,13 @@ impl State {
     /// this changed. It is one change. Each set of rows that it changes is written once, so it takes time by what goes, what refers
     /// to it, and the lists that it stands in. Nothing changes after the refusal.
     pub fn delete_all(&mut self, columns: &Columns, objects: &Set) -> Result<Items, NoMemory>
-        requires kept { IsKept columns.now self.old }
+        requires kept { IsStored columns.now self.old }
         requires not_root { contains (Object 0) objects.now ≡ false }
         ensures state { OnOk result (self.new.present.state ≡ without_all self.old.present.state objects.now) }
         ensures changed { IfOk result (λ items. AreChanged self.old.present.state self.new.present.state items) }
         ensures earlier { OnOk result (self.new.earlier ≡ self.old.earlier ++ self.old.present ∷ []) }
         ensures unchanged { OnErr result (self.new ≡ self.old) }
-        ensures kept { IsKept columns.now self.new }
+        ensures kept { IsStored columns.now self.new }
     {
         let starts = live_of(self.alloc, self.tables.objects(), objects)?;
         let doomed = families_of(self.alloc, self.tables.extents(), starts)?;
@@ -248,7 +248,7 @@ impl State {
         requires good { mark.place ≤ length self.old.earlier }
         ensures state { slice_get (self.old.earlier ++ self.old.present ∷ []) mark.place ≡ Some self.new.present }
         ensures earlier { self.new.earlier ≡ take mark.place self.old.earlier }
-        ensures kept { (nodes : List Node) → IsKept nodes self.old → IsKept nodes self.new }
+        ensures kept { (nodes : List Node) → IsStored nodes self.old → IsStored nodes self.new }
     {
         self.tables.undo_to(mark.place);
     }
@@ -258,7 +258,7 @@ impl State {
     pub fn forget(&mut self)
         ensures state { self.new.present ≡ self.old.present }
         ensures earlier { self.new.earlier ≡ [] }
-        ensures kept { (nodes : List Node) → IsKept nodes self.old → IsKept nodes self.new }
+        ensures kept { (nodes : List Node) → IsStored nodes self.old → IsStored nodes self.new }
     {
         settle(&mut self.tables);
         purge(&mut self.references, &self.tables);

@@ -17,7 +17,7 @@ use Rattle.sheet_define_data.specs.declared.definition.Content.TheVariants as co
 use Rattle.sheet_define_data.specs.declared.definition.Declaration.{Declaration}
 use Rattle.sheet_define_data.specs.declared.definition.Declaration.TheVariants as declaration
 use Rattle.sheet_define_data.specs.declared.definition.Definition.{Definition}
-use Rattle.sheet_types_rules.specs.Columns.{kind_of_column, kinds_from, home}
+use Rattle.sheet_types_rules.specs.Columns.{is_known, kind_of_column, kinds_from, home}
 use Rattle.sheet_types_rules.specs.Parameters.{AreParametersIn}
 use Rattle.sheet_types_rules.specs.Formulas.{kind_in, serves}
 use Rattle.sheet_types_rules.specs.Kinds.{common}
@@ -34,7 +34,7 @@ use Rattle.sheet_types_outline.proofs.StepLemmas.{both_ok, same_ok}
 use Rattle.sheet_types_rounds.specs.Rounds.{formula_in, formulas_of, written_formulas, count_formulas, at_column}
 use Rattle.sheet_types_bodies.specs.Bodies.{start, procedure_of, view_of}
 use Rattle.sheet_types_bodies.specs.Rules.{ProceduresAreTyped, ViewsAreTyped}
-use Rattle.sheet_books.specs.Books.{is_known, IsFormulaOf, HasFormula, HaveFormulas, IsWellTypedProcedure, IsWellTypedView, IsWellTyped}
+use Rattle.sheet_books.specs.Books.{IsFormulaOf, HasFormula, HaveFormulas, IsWellTypedProcedure, IsWellTypedView, IsWellTyped}
 use Rattle.sheet_books.specs.Within.{KindsAreWithin}
 use Rattle.sheet_types.specs.declared.bodies.Bodies.{Bodies}
 use Rattle.sheet_types.specs.Elaboration.{judged, column_formula, column_body, with_procedure, with_view, add_column, judge, no_bodies, all_judged, with_kinds}

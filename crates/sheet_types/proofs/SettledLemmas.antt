@@ -84,7 +84,7 @@ kind_at n (k ∷ ks) (suc c) all = kind_at n ks c all.1
 settled_column : (kinds : List Kind) (nodes : List Node) (k : Kind) (x : Column) → IsKindIn nodes k → IsHeldIn nodes x →
     IsHeldIn (with_kinds kinds 0 nodes) (of_kind k x)
 settled_column kinds nodes k column.Object found held = tt
-settled_column kinds nodes k (column.State l one first) found held = settled_kind kinds nodes l held
+settled_column kinds nodes k (column.State l one first) found held = (settled_kind kinds nodes l held.0, held.1)
 settled_column kinds nodes k (column.Formula l) found held = settled_kind kinds nodes k found
 
 settled_from : (kinds : List Kind) (nodes : List Node) → AreAllKindsIn nodes kinds → (c : ℕ) (ms : List Node) →
@@ -116,7 +116,7 @@ from_next nodes c m ms from j w is = let same : c + suc j ≡ c + 1 + j = omega 
 
 own_kind : (nodes : List Node) (c : ℕ) (x : Column) → column_of nodes c ≡ Some x → IsHeldIn nodes x → IsKindIn nodes (kind_of_column c x)
 own_kind nodes c column.Object is held = is
-own_kind nodes c (column.State k one first) is held = held
+own_kind nodes c (column.State k one first) is held = held.0
 own_kind nodes c (column.Formula k) is held = held
 
 own_kinds : (nodes : List Node) (c : ℕ) (ms : List Node) → AreFrom nodes c ms → AllByRecursion (λ (m : Node). IsHeldIn nodes m.column) ms →

@@ -26,7 +26,7 @@ use Rattle.sheet_types_formulas.specs.Names.{reach}
 use Rattle.sheet_types_formulas.specs.Typing.{typed}
 use Rattle.sheet_types_rules.specs.Formulas.{kind_in, serves, is_object, is_state, ◌>>◌}
 use Rattle.sheet_types_bodies.specs.Targets.{holder, column_under, target, on_state, state_target, on_objects, objects_target}
-use Rattle.sheet_books.specs.Books.{is_known}
+use Rattle.sheet_types_rules.specs.Columns.{is_known}
 use Rattle.sheet_types_bodies.specs.Statements.{Step, step, formula_of, deletable, let_of, changed, change_of, new_of, delete_of, check_of, reply_of}
 use Rattle.sheet_types_rules.specs.Statements.{where_so, suits, is_placed, is_deletable, changes_state, makes_object, behind, counted, numbered}
 use Rattle.sheet_types_bodies.proofs.Finding.{child_is_under}

@@ -13,7 +13,7 @@ use Rattle.sheet_columns.specs.declared.statement.Statements.{Statements}
 use Rattle.sheet_syntax_trees.specs.declared.tree.Tree.{Tree}
 use Rattle.sheet_define_data.specs.declared.statement.Target.{Target}
 use Rattle.sheet_define_data.specs.declared.statement.Statement.{Statement, Let, Set, Add, Remove, New, Delete, Check, Reply, If', IfElse', For', Row_of-Statement, end_of-Statement as end, more_of-Statement as more}
-use Rattle.sheet_books.specs.Books.{is_known}
+use Rattle.sheet_types_rules.specs.Columns.{is_known}
 use Rattle.sheet_types_formulas.specs.declared.scope.Typed.{Typed}
 use Rattle.sheet_types_formulas.specs.Answers.{Answer, ◌>>=◌}
 use Rattle.sheet_types_formulas.specs.Kinds.{agreed, column_above}

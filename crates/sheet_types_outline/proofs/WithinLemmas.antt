@@ -32,7 +32,7 @@ use Rattle.sheet_types_outline.specs.Types.{column_content}
 use Rattle.sheet_types_outline.specs.Resolving.{resolve_parameter, parameters_of, resolve, nothing_resolved, all_resolved}
 use Rattle.sheet_types_outline.specs.Outlines.{filled, outline_of}
 use Rattle.sheet_types_outline.specs.Within.{form, forms_at, forms_in, IsWithin, OutlinesAreWithin}
-use Rattle.sheet_types_rules.specs.Columns.{IsKindIn, IsHeldIn, AreKindsIn}
+use Rattle.sheet_types_rules.specs.Columns.{is_known, IsKindIn, IsHeldIn, AreKindsIn}
 use Rattle.sheet_types_rules.specs.Parameters.{most_parameters, AreParametersIn}
 use Rattle.sheet_types_outline.proofs.StepLemmas.{both_ok, same_ok, passed}
 use Rattle.sheet_types_outline.proofs.NamingLemmas.{goes_on}
@@ -143,8 +143,17 @@ forms_held nodes r t (d ∷ ds) is =
     let a = both_ok (resolve nodes r d) (λ u. in_turn (resolve nodes) u ds) t is in
     forms_held nodes a.0 t ds a.2 ∙ ap (λ xs. xs ++ forms_in ds) (step_forms nodes r a.0 d a.1) ∙ append_assoc (map form r.contents) (forms_at d) (forms_in ds)
 
-state_in : (nodes : List Node) (number depth : ℕ) (one : Bool) (first : Option Literal) (k : Kind) (x : columns.Column) → IsKindIn nodes k →
-    state_column nodes number depth one first k ≡ Ok x → IsHeldIn nodes x
+-- a type that a text names is known
+kind_known : (nodes : List Node) (t : TypeName) (k : Kind) → kind_of nodes t ≡ Ok k → is_known k ≡ true
+kind_known nodes type.Number k is = subst (λ x. is_known x ≡ true) (same_ok kind.Number k is) refl
+kind_known nodes type.Text k is = subst (λ x. is_known x ≡ true) (same_ok kind.Text k is) refl
+kind_known nodes type.Truth k is = subst (λ x. is_known x ≡ true) (same_ok kind.Truth k is) refl
+kind_known nodes (type.Object p) k is =
+    let a = both_ok (object_column_at nodes p) (λ c. Ok (kind.Object c)) k is in
+    subst (λ x. is_known x ≡ true) (same_ok (kind.Object a.0) k a.2) refl
+
+state_in : (nodes : List Node) (number depth : ℕ) (one : Bool) (first : Option Literal) (k : Kind) (x : columns.Column) →
+    IsKindIn nodes k × (is_known k ≡ true) → state_column nodes number depth one first k ≡ Ok x → IsHeldIn nodes x
 state_in nodes number depth one None k x within is =
     subst (IsHeldIn nodes) (passed (one && depth == 0) (NeedsFirst (path nodes number)) (column.State k one None) x is) within
 state_in nodes number depth one (Some l) k x within is =
@@ -155,7 +164,7 @@ held_in : (nodes : List Node) (number depth : ℕ) (c : Content) (x : columns.Co
 held_in nodes number depth content.Object x is = subst (IsHeldIn nodes) (same_ok column.Object x is) tt
 held_in nodes number depth (content.State t one first) x is =
     let a = both_ok (kind_of nodes t) (state_column nodes number depth one first) x is in
-    state_in nodes number depth one first a.0 x (kind_in nodes t a.0 a.1) a.2
+    state_in nodes number depth one first a.0 x (kind_in nodes t a.0 a.1, kind_known nodes t a.0 a.1) a.2
 held_in nodes number depth (content.Formula t f) x is =
     let a = both_ok (declared_kind nodes t) (λ k. Ok (column.Formula k)) x is in
     subst (IsHeldIn nodes) (same_ok (column.Formula a.0) x a.2) (declared_in nodes t a.0 a.1)
@@ -278,7 +287,7 @@ filled_kind nodes xs (kind.Object c) alike within = filled_object nodes xs c ali
 
 filled_held : (nodes : List Node) (xs : List columns.Column) (x : columns.Column) → AreAlike nodes xs → IsHeldIn nodes x → IsHeldIn (filled nodes xs) x
 filled_held nodes xs column.Object alike within = tt
-filled_held nodes xs (column.State k one first) alike within = filled_kind nodes xs k alike within
+filled_held nodes xs (column.State k one first) alike within = (filled_kind nodes xs k alike within.0, within.1)
 filled_held nodes xs (column.Formula k) alike within = filled_kind nodes xs k alike within
 
 all_map : {A : Type 0} (P Q : A → Type 0) → ((x : A) → P x → Q x) → (xs : List A) → AllByRecursion P xs → AllByRecursion Q xs

@@ -1,5 +1,5 @@
 -- The types of columns.
-use Rattle.std.specs.Prelude.{◌≡◌, ℕ, ◌+◌, List, [], ◌∷◌, Option, Some, None}
+use Rattle.std.specs.Prelude.{◌≡◌, ℕ, ◌+◌, ◌×◌, Bool, true, false, List, [], ◌∷◌, Option, Some, None}
 use Rattle.std.specs.List.{AllByRecursion}
 use Rattle.sheet_values.specs.declared.value.Kind.{Kind}
 use Rattle.sheet_values.specs.declared.value.Kind.TheVariants as kind
@@ -13,6 +13,11 @@ abbrev pub kind_of_column : ℕ → Column → Kind
 kind_of_column c column.Object = kind.Object c
 kind_of_column c (column.State k one first) = k
 kind_of_column c (column.Formula k) = k
+
+-- a type that is known
+abbrev pub is_known : Kind → Bool
+is_known kind.Unknown = false
+is_known k = true
 
 -- the types of columns by themselves, numbered from that number on
 abbrev pub kinds_from : ℕ → List Node → List Kind
@@ -36,10 +41,10 @@ IsKindIn nodes kind.Number = Unit {0}
 IsKindIn nodes kind.Text = Unit {0}
 IsKindIn nodes (kind.Object c) = column_of nodes c ≡ Some column.Object
 
--- what a column holds is of a type in the tree
+-- what a column holds is of a type in the tree, and the type of a state column is known
 abbrev pub IsHeldIn : List Node → Column → Type 0
 IsHeldIn nodes column.Object = Unit {0}
-IsHeldIn nodes (column.State k one first) = IsKindIn nodes k
+IsHeldIn nodes (column.State k one first) = IsKindIn nodes k × (is_known k ≡ true)
 IsHeldIn nodes (column.Formula k) = IsKindIn nodes k
 
 -- the types of parameters are types in the tree

@@ -1,6 +1,6 @@
 // Random changes and the way back from them.
 ghost use Rattle.std.specs.Prelude.{◌≡◌, ◌≤◌, ◌<◌, length};
-ghost use Rattle.sheet_state.specs.Kept.{IsKept};
+ghost use Rattle.sheet_state.specs.Stored.{IsStored};
 
 use crate::{Model, Random, delete, delete_all, make, refer};
 use sheet_columns::Columns;
@@ -19,8 +19,8 @@ fn grow(
     model: &mut Model,
     random: &mut Random,
 ) -> Result<(), StateRefusal>
-    requires { IsKept columns.now state.old }
-    ensures kept { IsKept columns.now state.new }
+    requires { IsStored columns.now state.old }
+    ensures kept { IsStored columns.now state.new }
     ensures longer { length state.old.earlier ≤ length state.new.earlier }
 {
     let above = random.below(model.next().saturating_add(1));
@@ -39,8 +39,8 @@ fn link(
     model: &mut Model,
     random: &mut Random,
 ) -> Result<(), StateRefusal>
-    requires { IsKept columns.now state.old }
-    ensures kept { IsKept columns.now state.new }
+    requires { IsStored columns.now state.old }
+    ensures kept { IsStored columns.now state.new }
     ensures longer { length state.old.earlier ≤ length state.new.earlier }
 {
     let bound = model.next().saturating_add(1);
@@ -61,8 +61,8 @@ fn cut(
     model: &mut Model,
     random: &mut Random,
 ) -> Result<(), StateRefusal>
-    requires { IsKept columns.now state.old }
-    ensures kept { IsKept columns.now state.new }
+    requires { IsStored columns.now state.old }
+    ensures kept { IsStored columns.now state.new }
     ensures longer { length state.old.earlier ≤ length state.new.earlier }
 {
     let object = random.below(model.next().saturating_add(1));
@@ -91,8 +91,8 @@ fn cut_some(
     model: &mut Model,
     random: &mut Random,
 ) -> Result<(), StateRefusal>
-    requires { IsKept columns.now state.old }
-    ensures kept { IsKept columns.now state.new }
+    requires { IsStored columns.now state.old }
+    ensures kept { IsStored columns.now state.new }
     ensures longer { length state.old.earlier ≤ length state.new.earlier }
 {
     let objects = three(alloc, random, model.next().saturating_add(1))?;
@@ -110,8 +110,8 @@ fn change(
     model: &mut Model,
     random: &mut Random,
 ) -> Result<(), StateRefusal>
-    requires { IsKept columns.now state.old }
-    ensures kept { IsKept columns.now state.new }
+    requires { IsStored columns.now state.old }
+    ensures kept { IsStored columns.now state.new }
     ensures longer { length state.old.earlier ≤ length state.new.earlier }
 {
     match random.below(9) {
@@ -131,8 +131,8 @@ pub fn explore(
     random: &mut Random,
     depth: u32,
 ) -> Result<bool, StateRefusal>
-    requires { IsKept columns.now state.old }
-    ensures kept { IsKept columns.now state.new }
+    requires { IsStored columns.now state.old }
+    ensures kept { IsStored columns.now state.new }
     ensures longer { length state.old.earlier ≤ length state.new.earlier }
 {
     if depth == 0 {

@@ -1,7 +1,7 @@
 // Changes of a state where they may be made.
 ghost use Rattle.std.specs.Prelude.{◌≡◌, ◌≤◌, length, IsTrue, IfOk};
 ghost use Rattle.sheet_meaning.specs.WellFormed.{HasKind};
-ghost use Rattle.sheet_state.specs.Kept.{IsKept};
+ghost use Rattle.sheet_state.specs.Stored.{IsStored};
 
 use sheet_columns::{Column, Columns};
 use sheet_state::{State, StateRefusal};
@@ -48,8 +48,8 @@ pub fn make(
     column: u32,
     above: u64,
 ) -> Result<Option<u64>, StateRefusal>
-    requires { IsKept columns.now state.old }
-    ensures kept { IsKept columns.now state.new }
+    requires { IsStored columns.now state.old }
+    ensures kept { IsStored columns.now state.new }
     ensures longer { length state.old.earlier ≤ length state.new.earlier }
 {
     if column == 0 || column >= columns.count() {
@@ -73,8 +73,8 @@ pub fn refer(
     column: u32,
     held: u64,
 ) -> Result<bool, StateRefusal>
-    requires { IsKept columns.now state.old }
-    ensures kept { IsKept columns.now state.new }
+    requires { IsStored columns.now state.old }
+    ensures kept { IsStored columns.now state.new }
     ensures longer { length state.old.earlier ≤ length state.new.earlier }
 {
     if column == 0
@@ -102,8 +102,8 @@ pub fn refer(
 
 /// Takes an object away where that may be; whether it went.
 pub fn delete(columns: &Columns, state: &mut State, object: u64) -> Result<bool, NoMemory>
-    requires { IsKept columns.now state.old }
-    ensures kept { IsKept columns.now state.new }
+    requires { IsStored columns.now state.old }
+    ensures kept { IsStored columns.now state.new }
     ensures longer { length state.old.earlier ≤ length state.new.earlier }
 {
     if object == 0 || !state.is_live(object) {
@@ -115,8 +115,8 @@ pub fn delete(columns: &Columns, state: &mut State, object: u64) -> Result<bool,
 
 /// Takes the objects of a set away, where the root is none of them; whether they went.
 pub fn delete_all(columns: &Columns, state: &mut State, objects: &Set) -> Result<bool, NoMemory>
-    requires { IsKept columns.now state.old }
-    ensures kept { IsKept columns.now state.new }
+    requires { IsStored columns.now state.old }
+    ensures kept { IsStored columns.now state.new }
     ensures longer { length state.old.earlier ≤ length state.new.earlier }
 {
     if objects.contains(&Value::Object(0)) {

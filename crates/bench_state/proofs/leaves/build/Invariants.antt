@@ -1,5 +1,5 @@
-use Rattle.sheet_state.specs.Kept.{IsKept}
+use Rattle.sheet_state.specs.Stored.{IsStored}
 use Rattle.bench_state.proofs.leaves.build.Given as goal
 
 abbrev pub invariant-loop : goal.invariant-loop
-invariant-loop l = IsKept l.columns l.state
+invariant-loop l = IsStored l.columns l.state

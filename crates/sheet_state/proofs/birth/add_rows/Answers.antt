@@ -4,7 +4,7 @@ use Rattle.std.specs.Option.{option_to_list}
 use Rattle.std.proofs.lemmas.List.{take_all}
 use Rattle.sheet_meaning.specs.WellFormed.{state_columns}
 use Rattle.sheet_state.specs.Births.{item_of, with_items, with_rows, state_at, extent_at}
-use Rattle.sheet_state.specs.Kept.{schema_of, object_columns}
+use Rattle.sheet_state.specs.Stored.{schema_of, object_columns}
 use Rattle.sheet_state.proofs.Births.{states_more, extents_more, got_at, rows_after, items_after, no_rows, none_yet}
 use Rattle.sheet_state.proofs.birth.add_rows.Goals as goal
 

@@ -2,7 +2,7 @@ use Rattle.std.proofs.Common.{◌≡◌, take}
 use Rattle.std.specs.List.{filter_map}
 use Rattle.sheet_meaning.specs.WellFormed.{state_columns}
 use Rattle.sheet_state.specs.Births.{item_of, with_items, with_rows}
-use Rattle.sheet_state.specs.Kept.{schema_of, object_columns}
+use Rattle.sheet_state.specs.Stored.{schema_of, object_columns}
 use Rattle.sheet_state.proofs.birth.add_rows.Given as goal
 
 abbrev pub invariant-loop-k : goal.invariant-loop-k

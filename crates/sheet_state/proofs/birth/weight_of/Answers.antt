@@ -6,7 +6,7 @@ use Rattle.std.proofs.lemmas.Option.{slice_get_within}
 use Rattle.sheet_columns.specs.Tree.{root}
 use Rattle.sheet_meaning.specs.WellFormed.{StateColumn, state_columns}
 use Rattle.sheet_state.specs.Births.{formula_columns, firsts, state_at, formula_at}
-use Rattle.sheet_state.specs.Kept.{schema_of}
+use Rattle.sheet_state.specs.Stored.{schema_of}
 use Rattle.sheet_state.proofs.Births.{states_more, formulas_more, got_at, none_yet}
 use Rattle.sheet_state.proofs.birth.weight_of.Goals as goal
 

@@ -1,7 +1,7 @@
 use Rattle.std.proofs.Common.{◌≡◌, ◌+◌, ◌≤◌, length, take}
 use Rattle.sheet_meaning.specs.WellFormed.{state_columns}
 use Rattle.sheet_state.specs.Births.{formula_columns, firsts}
-use Rattle.sheet_state.specs.Kept.{schema_of}
+use Rattle.sheet_state.specs.Stored.{schema_of}
 use Rattle.sheet_state.proofs.birth.weight_of.Given as goal
 
 abbrev pub invariant-loop-k : goal.invariant-loop-k

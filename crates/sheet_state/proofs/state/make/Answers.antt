@@ -8,7 +8,7 @@ use Rattle.sheet_state_rows.specs.declared.row.Counters.{Counters}
 use Rattle.sheet_state_rows.specs.declared.row.SetRow.{SetRow}
 use Rattle.sheet_meaning.specs.WellFormed.{state_columns}
 use Rattle.sheet_state.specs.Births.{set_at, with_rows, new_object_row}
-use Rattle.sheet_state.specs.Kept.{schema_of, object_columns}
+use Rattle.sheet_state.specs.Stored.{schema_of, object_columns}
 use Rattle.sheet_state.proofs.SetRows.{row}
 use Rattle.sheet_state.proofs.state.make.Goals as goal
 

@@ -1,6 +1,6 @@
 use Rattle.std.proofs.Common.{◌≡◌, ◌∙◌, ap, sym, subst, None, rules}
 use Rattle.sheet_meaning.specs.Changes.{with_set}
-use Rattle.sheet_state.specs.Kept.{IsKept, book as book_of}
+use Rattle.sheet_state.specs.Stored.{IsStored, book as book_of}
 use Rattle.sheet_state.specs.Limits.{first_full}
 use Rattle.sheet_engine.specs.Seen.{Seen}
 use Rattle.sheet_engine.proofs.engine.Engine.set_cell.Goals as goal
@@ -8,7 +8,7 @@ use Rattle.sheet_engine.proofs.engine.Engine.set_cell.Goals as goal
 pub set_cell-requires-clause-kept : goal.set_cell-requires-clause-kept
 set_cell-requires-clause-kept c =
     let same : c.columns.result.now ≡ c.self.inside.book.value.columns = search rules in
-    subst (λ n. IsKept n c.self.inside.state) (sym same) c.self.invariant.kept
+    subst (λ n. IsStored n c.self.inside.state) (sym same) c.self.invariant.kept
 
 pub returns-clause-room : goal.returns-clause-room
 returns-clause-room c =

@@ -7,7 +7,7 @@ use Rattle.sheet_values.specs.Sorted.{IsRising}
 use Rattle.sheet_meaning.specs.Changes.{without}
 use Rattle.sheet_meaning.specs.Formula.{object_in}
 use Rattle.sheet_state.specs.Deaths.{rid_of}
-use Rattle.sheet_state.specs.Kept.{IsKept, IsMoment, AreChanged}
+use Rattle.sheet_state.specs.Stored.{IsStored, IsMoment, AreChanged}
 use Rattle.sheet_state.specs.Places.{IsListed}
 use Rattle.sheet_state.specs.Removals.{without_all, AreLive}
 use Rattle.sheet_state.specs.Rows.{moment, state_of, objects_in, object_cmp, IsSound}
@@ -30,15 +30,15 @@ pub families_of-requires-clause-descends : goal.families_of-requires-clause-desc
 families_of-requires-clause-descends c =
     subst Descends (sym c.extents.ensures)
     (descends c.args.columns.now c.self.inside.tables.present c.self.invariant.0
-    (subst (IsKept c.args.columns.now) (sym c.self.view_is) c.requires.kept).present)
+    (subst (IsStored c.args.columns.now) (sym c.self.view_is) c.requires.kept).present)
 
 pub places_of-requires-clause-kept : goal.places_of-requires-clause-kept
-places_of-requires-clause-kept c = (c.args.columns.now, (subst (IsKept c.args.columns.now) (sym c.self.view_is) c.requires.kept).present)
+places_of-requires-clause-kept c = (c.args.columns.now, (subst (IsStored c.args.columns.now) (sym c.self.view_is) c.requires.kept).present)
 
 pub places_of-requires-clause-only : goal.places_of-requires-clause-only
 places_of-requires-clause-only c =
     let t = c.self.inside.tables.present in
-    let kept = subst (IsKept c.args.columns.now) (sym c.self.view_is) c.requires.kept in
+    let kept = subst (IsStored c.args.columns.now) (sym c.self.view_is) c.requires.kept in
     let starts = c.in_ok-starts.starts.keys in
     only c.args.columns.now t c.self.invariant.0 kept.present c.args.objects.now c.requires.not_root starts
     (subst (λ rows. AreLive (objects_in rows) c.args.objects.now starts) c.objects.ensures c.in_ok-starts.ensures) c.in_ok-doomed.doomed
@@ -47,7 +47,7 @@ places_of-requires-clause-only c =
 pub places_of-requires-clause-small : goal.places_of-requires-clause-small
 places_of-requires-clause-small c =
     let t = c.self.inside.tables.present in
-    let kept = subst (IsKept c.args.columns.now) (sym c.self.view_is) c.requires.kept in
+    let kept = subst (IsStored c.args.columns.now) (sym c.self.view_is) c.requires.kept in
     let starts = c.in_ok-starts.starts.keys in
     small c.args.columns.now t c.self.invariant.0 kept.present c.args.objects.now c.requires.not_root starts
     (subst (λ rows. AreLive (objects_in rows) c.args.objects.now starts) c.objects.ensures c.in_ok-starts.ensures) c.in_ok-doomed.doomed
@@ -62,7 +62,7 @@ ns c = filter_map object_in c.in_ok-doomed.doomed
 goes : (c : goal.After-drop-doomed-inside-2) → MayGo c.self.inside.tables.present c.in_ok-doomed.doomed (ns c)
 goes c =
     let t = c.self.inside.tables.present in
-    let kept = subst (IsKept c.args.columns.now) (sym c.self.view_is) c.requires.kept in
+    let kept = subst (IsStored c.args.columns.now) (sym c.self.view_is) c.requires.kept in
     let starts = c.in_ok-starts.starts.keys in
     may_go c.args.columns.now t c.self.invariant.0 kept.present c.args.objects.now c.requires.not_root starts
     (subst (λ rows. AreLive (objects_in rows) c.args.objects.now starts) c.objects.ensures c.in_ok-starts.ensures) c.in_ok-doomed.doomed
@@ -73,7 +73,7 @@ invariant_of-self-2 c =
     let t = c.self.inside.tables.present in
     let d = c.in_ok-doomed.doomed in
     let refs = c.self.inside.references in
-    let kept = subst (IsKept c.args.columns.now) (sym c.self.view_is) c.requires.kept in (
+    let kept = subst (IsStored c.args.columns.now) (sym c.self.view_is) c.requires.kept in (
       subst IsSound (sym (made c)) (sound_rid c.args.columns.now t c.self.invariant.0 kept.present d (ns c) (goes c)),
       subst (AllByRecursion IsSound) (sym c.in_ok-items.ensures.earlier)
           (all_push IsSound c.self.inside.tables.earlier t c.self.invariant.1 c.self.invariant.0),
@@ -88,7 +88,7 @@ left_is : (c : goal.After-drop-doomed-inside-2) → without_all (state_of c.self
     (state_of c.self.inside.tables.present) (ns c)
 left_is c =
     let t = c.self.inside.tables.present in
-    let kept = subst (IsKept c.args.columns.now) (sym c.self.view_is) c.requires.kept in
+    let kept = subst (IsStored c.args.columns.now) (sym c.self.view_is) c.requires.kept in
     let starts = c.in_ok-starts.starts.keys in
     all_removed c.args.columns.now t c.self.invariant.0 kept.present c.args.objects.now c.requires.not_root starts
     (subst (λ rows. AreLive (objects_in rows) c.args.objects.now starts) c.objects.ensures c.in_ok-starts.ensures) c.in_ok-doomed.doomed
@@ -97,7 +97,7 @@ left_is c =
 state_is : (c : goal.After-drop-doomed-inside-2) → state_of c.take_away.new.tables.present ≡ without_all c.args.self.now.present.state c.args.objects.now
 state_is c =
     let t = c.self.inside.tables.present in
-    let kept = subst (IsKept c.args.columns.now) (sym c.self.view_is) c.requires.kept in
+    let kept = subst (IsStored c.args.columns.now) (sym c.self.view_is) c.requires.kept in
     ap state_of (made c)
     ∙ state_rid c.args.columns.now t c.self.invariant.0 kept.present c.in_ok-doomed.doomed (ns c) (goes c)
     ∙ sym (left_is c)
@@ -110,7 +110,7 @@ pub returns-clause-changed : goal.returns-clause-changed
 returns-clause-changed c =
     let t = c.self.inside.tables.present in
     let set = c.args.objects.now in
-    let kept = subst (IsKept c.args.columns.now) (sym c.self.view_is) c.requires.kept in
+    let kept = subst (IsStored c.args.columns.now) (sym c.self.view_is) c.requires.kept in
     subst (λ u. AreChanged c.args.self.now.present.state u c.in_ok-items.items) (sym (state_is c))
     (subst (λ w. AreChanged w.present.state (without_all w.present.state set) c.in_ok-items.items) c.self.view_is
     (subst (λ u. AreChanged (state_of t) u c.in_ok-items.items) (sym (left_is c))
@@ -121,7 +121,7 @@ pub returns-clause-kept : goal.returns-clause-kept
 returns-clause-kept c =
     let t = c.self.inside.tables.present in
     let nodes = c.args.columns.now in
-    let kept = subst (IsKept nodes) (sym c.self.view_is) c.requires.kept in
+    let kept = subst (IsStored nodes) (sym c.self.view_is) c.requires.kept in
     record {
       present = subst (λ u. IsMoment nodes (moment u)) (sym (made c))
           (moment_rid nodes t c.self.invariant.0 kept.present c.in_ok-doomed.doomed (ns c) (goes c));

@@ -1,7 +1,7 @@
 use Rattle.std.proofs.Common.{◌∙◌, sym, ap, subst}
 use Rattle.std.specs.Prelude.{map}
 use Rattle.std.specs.List.{AllByRecursion}
-use Rattle.sheet_state.specs.Kept.{IsMoment}
+use Rattle.sheet_state.specs.Stored.{IsMoment}
 use Rattle.sheet_state.specs.Places.{IsListed}
 use Rattle.sheet_state.specs.Rows.{moment, IsSound}
 use Rattle.sheet_state.proofs.state.State.forget.Goals as goal

@@ -6,7 +6,7 @@ use Rattle.sheet_state_rows.specs.declared.row.Counters.{Counters}
 use Rattle.sheet_state_rows.specs.declared.row.ObjectRow.{ObjectRow}
 use Rattle.sheet_meaning.specs.WellFormed.{state_columns}
 use Rattle.sheet_state.specs.Births.{with_rows}
-use Rattle.sheet_state.specs.Kept.{IsMoment, schema_of, object_columns}
+use Rattle.sheet_state.specs.Stored.{IsMoment, schema_of, object_columns}
 use Rattle.sheet_state.specs.Places.{IsListed}
 use Rattle.sheet_state.specs.Rows.{moment, state_of, IsSound}
 use Rattle.sheet_state.proofs.Listed.{cells_born}

@@ -11,7 +11,7 @@ use Rattle.sheet_meaning.specs.Changes.{with_object}
 use Rattle.sheet_meaning.specs.WellFormed.{state_columns}
 use Rattle.sheet_meaning.specs.Workbook.{object_at, column_in}
 use Rattle.sheet_state.specs.Births.{formula_columns, firsts}
-use Rattle.sheet_state.specs.Kept.{IsKept, IsMoment, AreChanged, book, schema_of}
+use Rattle.sheet_state.specs.Stored.{IsStored, IsMoment, AreChanged, book, schema_of}
 use Rattle.sheet_state.specs.Limits.{first_full, full_of, Refuses}
 use Rattle.sheet_state.specs.Places.{IsListed}
 use Rattle.sheet_state.specs.Rows.{is_set, moment, state_of, IsSound}
@@ -42,7 +42,7 @@ pub returns-in-Some-clause-full : goal.returns-in-Some-clause-full
 returns-in-Some-clause-full c =
     let t = c.self.inside.tables.present in
     let nodes = c.args.columns.now in
-    let kept = subst (IsKept nodes) (sym c.self.view_is) c.requires.kept in
+    let kept = subst (IsStored nodes) (sym c.self.view_is) c.requires.kept in
     let w = c.weight_of-weight.ensures in
     let full = full_is nodes t c.self.invariant.0 kept.present c.args.column c.args.parent c.counters-counters.result c.weight_of-weight.result.0
     c.weight_of-weight.result.1 c.counters-counters.ensures w.cells w.values in
@@ -55,7 +55,7 @@ unreachable-requires c =
     let nodes = c.args.columns.now in
     let p = c.args.parent in
     let v = sym c.self.view_is in
-    let kept = subst (IsKept nodes) v c.requires.kept in
+    let kept = subst (IsStored nodes) v c.requires.kept in
     extent_found nodes t c.args.column p kept.present
     (subst (λ w. IsSome (object_at w.present.state.objects p)) v c.requires.live)
     (subst (λ w. column_in (object_at w.present.state.objects p) ≡ above_of nodes c.args.column) v c.requires.under)
@@ -122,7 +122,7 @@ room : (c : goal.In_ok-items) →
 room c =
     let t = c.self.inside.tables.present in
     let nodes = c.args.columns.now in
-    let kept = subst (IsKept nodes) (sym c.self.view_is) c.requires.kept in
+    let kept = subst (IsStored nodes) (sym c.self.view_is) c.requires.kept in
     let w = c.weight_of-weight.ensures in
     sym (full_is nodes t c.self.invariant.0 kept.present c.args.column c.args.parent c.counters-counters.result c.weight_of-weight.result.0
     c.weight_of-weight.result.1 c.counters-counters.ensures w.cells w.values)
@@ -144,7 +144,7 @@ returns-clause-changed c =
     let k = c.args.column in
     let f = row_at c in
     let v = sym c.self.view_is in
-    let kept = subst (IsKept nodes) v c.requires.kept in
+    let kept = subst (IsStored nodes) v c.requires.kept in
     subst (λ u. AreChanged c.args.self.now.present.state u c.in_ok-items.items) (sym (state_is c))
     (subst (λ w. AreChanged w.present.state (with_object (schema_of nodes) w.present.state k p) c.in_ok-items.items) c.self.view_is
     (subst (AreChanged (state_of t) (with_object (schema_of nodes) (state_of t) k p)) (sym c.in_ok-items.ensures.items)
@@ -162,7 +162,7 @@ returns-clause-kept c =
     let k = c.args.column in
     let f = row_at c in
     let v = sym c.self.view_is in
-    let kept = subst (IsKept nodes) v c.requires.kept in
+    let kept = subst (IsStored nodes) v c.requires.kept in
     record {
       present =
           subst (λ u. IsMoment nodes (moment u)) (sym c.in_ok-items.ensures.present)

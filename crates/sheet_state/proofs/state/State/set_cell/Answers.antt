@@ -11,7 +11,7 @@ use Rattle.sheet_meaning.specs.WellFormed.{HoldsKind, max_values}
 use Rattle.sheet_meaning.specs.Workbook.{object_at, column_in, set_in}
 use Rattle.sheet_meaning.specs.Formula.{sets_equal}
 use Rattle.sheet_meaning.specs.declared.refusal.Which.TheVariants.{Values}
-use Rattle.sheet_state.specs.Kept.{IsKept, IsMoment, AreChanged, book}
+use Rattle.sheet_state.specs.Stored.{IsStored, IsMoment, AreChanged, book}
 use Rattle.sheet_state.specs.Limits.{first_full}
 use Rattle.sheet_state.specs.Places.{IsListedRow, IsListed}
 use Rattle.sheet_state.specs.Rows.{is_set, moment, state_of, IsSound}
@@ -40,7 +40,7 @@ unreachable-requires c =
     let t = c.self.inside.tables.present in
     let nodes = c.args.columns.now in
     let v = sym c.self.view_is in
-    let kept = subst (IsKept nodes) v c.requires.kept in
+    let kept = subst (IsStored nodes) v c.requires.kept in
     cell_found nodes t o k c.args.set kept.present
     (subst (λ w. IsSome (object_at w.present.state.objects o)) v c.requires.live)
     (subst (λ w. column_in (object_at w.present.state.objects o) ≡ above_of nodes k) v c.requires.under)
@@ -64,7 +64,7 @@ returns-then-len-others-clause-full c =
     let k = c.args.column in
     let t = c.self.inside.tables.present in
     let nodes = c.args.columns.now in
-    let kept = subst (IsKept nodes) (sym c.self.view_is) c.requires.kept in
+    let kept = subst (IsStored nodes) (sym c.self.view_is) c.requires.kept in
     let f = found c.cells.result.now t.cells o k c.in-Some.place c.cells.ensures c.in-Some.ensures in
     let old = old_length c.cells-2.result.now t.cells o k c.in-Some.place c.len.result _ f.0 c.cells-2.ensures f.1 c.len.ensures.len in
     let values = ap (λ (n : Counters). n.values) c.counters-counters.ensures in
@@ -125,7 +125,7 @@ few_values c =
     let f = found c.cells.result.now t.cells c.args.object c.args.column c.in-Some.place c.cells.ensures c.in-Some.ensures in
     let old = old_length c.cells-2.result.now t.cells c.args.object c.args.column c.in-Some.place c.len.result _ f.0 c.cells-2.ensures f.1 c.len.ensures.len in
     let values = ap (λ (n : Counters). n.values) c.counters-counters.ensures in
-    let kept = subst (IsKept c.args.columns.now) (sym c.self.view_is) c.requires.kept in
+    let kept = subst (IsStored c.args.columns.now) (sym c.self.view_is) c.requires.kept in
     let small = kept.present.well_formed.few_values in
     let counted = c.self.invariant.0.counted_values in
     omega (arith, c.if-len-others.false, c.len-2.ensures.len, c.len-3.ensures.len, values, small, counted)
@@ -203,7 +203,7 @@ returns-clause-room c =
     let t = c.self.inside.tables.present in
     let f = row_at c in
     let nodes = c.args.columns.now in
-    let kept = subst (IsKept nodes) (sym c.self.view_is) c.requires.kept in
+    let kept = subst (IsStored nodes) (sym c.self.view_is) c.requires.kept in
     subst (λ w. first_full (book nodes (with_set w.present.state c.args.object c.args.column c.args.set)) ≡ None) c.self.view_is
     (room_after t c.self.invariant.0 c.args.object c.args.column c.args.set c.in-Some.place f.0 f.1 nodes kept.present _ (values_are c) (few_values c))
 
@@ -215,7 +215,7 @@ returns-clause-kept c =
     let f = row_at c in
     let nodes = c.args.columns.now in
     let v = sym c.self.view_is in
-    let kept = subst (IsKept nodes) v c.requires.kept in
+    let kept = subst (IsStored nodes) v c.requires.kept in
     let typed = subst (λ w. HoldsKind w.present.state (record { object = o; column = k; set = c.args.set }) (column_of nodes k)) v c.requires.typed in
     record {
       present = subst (λ u. IsMoment nodes (moment u)) (sym (made c))

@@ -2,7 +2,7 @@ use Rattle.std.proofs.Common.{◌≡◌, ◌∙◌, sym, ap, subst, Some, take, 
 use Rattle.std.specs.Prelude.{map, slice_get}
 use Rattle.std.specs.List.{AllByRecursion}
 use Rattle.std.proofs.lemmas.List.{take-map, map-append}
-use Rattle.sheet_state.specs.Kept.{IsMoment}
+use Rattle.sheet_state.specs.Stored.{IsMoment}
 use Rattle.sheet_state.specs.Rows.{moment}
 use Rattle.sheet_state.proofs.Back.{all_push, all_take, all_get, get_map}
 use Rattle.sheet_state.proofs.state.State.undo_to.Goals as goal

@@ -1,4 +1,4 @@
--- What is kept of a workbook.
+-- What a state stores of a workbook.
 use Rattle.std.specs.Prelude.{◌≡◌, ℕ, List, map, Option, Some, None, if◌then◌else◌, true}
 use Rattle.std.specs.List.{filter_map, flat_map, enumerate_from, AllByRecursion}
 use Rattle.sheet_values.specs.Sorted.{contains}
@@ -45,25 +45,25 @@ object_columns nodes c = filter_map (λ (x : ℕ × Node). if is_number c x.1.ab
 abbrev pub extents_of : List Node → List LiveObject → List (ℕ × ℕ)
 extents_of nodes objects = flat_map (λ (x : LiveObject). map (λ (k : ℕ). (x.number, k)) (object_columns nodes x.column)) objects
 
--- a state at one time, with the extents that are kept, and how many state and formula cells there are
+-- a state at one time, with the extents that are stored, and how many state and formula cells there are
 pub record Moment : Type 0 where
   pub state : State
   pub extents : List (ℕ × ℕ)
   pub cells : ℕ
 
 -- a state as it is, and as it was before each change that can still be undone, the earliest first
-pub record Kept : Type 0 where
+pub record Stored : Type 0 where
   pub present : Moment
   pub earlier : List Moment
 
--- what is kept is a well-formed workbook of these columns
+-- what is stored is a well-formed workbook of these columns
 pub record IsMoment (nodes : List Node) (m : Moment) : Type 0 where
   pub well_formed : IsWellFormed (book nodes m.state)
   pub extents : m.extents ≡ extents_of nodes m.state.objects
   pub cells : m.cells ≡ cell_count (book nodes m.state)
 
 -- it is, and was, of these columns
-pub record IsKept (nodes : List Node) (k : Kept) : Type 0 where
+pub record IsStored (nodes : List Node) (k : Stored) : Type 0 where
   pub present : IsMoment nodes k.present
   pub earlier : AllByRecursion (IsMoment nodes) k.earlier
 
