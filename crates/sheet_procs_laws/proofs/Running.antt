@@ -1,6 +1,6 @@
 -- Well-typed statements and procedures keep a workbook well formed.
 use Rattle.std.proofs.Common.{◌≡◌, refl, ap, sym, ◌∙◌, subst, ℕ, ◌<◌, Bool, true, false, List, [], ◌∷◌, ◌++◌, length, Ok, Err, Option, Some, None, arith}
-use Rattle.std.specs.Prelude.{◌&&◌, map, fold, sum_by, is_some, IsSome, IfOk, if◌then◌else◌, slice_index_or, Result}
+use Rattle.std.specs.Prelude.{zero, suc, ◌&&◌, map, fold, sum_by, is_some, IsSome, IfOk, if◌then◌else◌, slice_index_or, Result}
 use Rattle.std.specs.List.{AllByRecursion, filter_map}
 use Rattle.std.proofs.lemmas.Bool.{eqb-true}
 use Rattle.sheet_values.specs.declared.value.Kind.{Kind}
