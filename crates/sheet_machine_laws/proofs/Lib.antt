@@ -1,1 +1,5 @@
 pub mod Unchanged
+pub mod Replies
+pub mod Lengths
+pub mod KeptCallers
+pub mod Soundness

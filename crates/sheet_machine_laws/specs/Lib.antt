@@ -5,4 +5,6 @@ pub mod Act
 pub mod Step
 pub mod Unchanged
 pub mod Sound
+pub mod Ranges
+pub mod Staying
 pub mod Worked

@@ -1,6 +1,7 @@
 -- What a machine holds is always sound.
 use Rattle.std.specs.Prelude.{◌≡◌, ℕ, ◌<◌, ◌≤◌, length, sum_by, Option, Some, None}
 use Rattle.std.specs.List.{AllByRecursion}
+use Rattle.sheet_columns.specs.Tree.{IsTree}
 use Rattle.sheet_meaning.specs.Drawn.{IsDrawn}
 use Rattle.sheet_meaning.specs.Workbook.{object_at, column_in}
 use Rattle.sheet_meaning.specs.WellFormed.{IsWellFormed, IsFilled}
@@ -36,6 +37,7 @@ pub record IsCaller (h : Holding) (c : Caller) : Type 0 where
 -- what is held: a well-typed book, a well-formed and filled workbook, callers, and as many requests as may be accepted
 pub record IsSound (h : Holding) : Type 0 where
   pub typed : IsWellTyped h.book
+  pub tree : IsTree h.book.columns
   pub formed : IsWellFormed (workbook_of h)
   pub filled : IsFilled (workbook_of h)
   pub callers : AreCallers h.callers

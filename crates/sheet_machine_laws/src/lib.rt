@@ -3,4 +3,4 @@
 
 mod law;
 
-pub use law::{only_accepted_change, worked_numbers};
+pub use law::{only_accepted_change, sound_stays, starts_are_sound, worked_numbers};
