@@ -1,7 +1,7 @@
 -- What holds of callers when one of them keeps one more request, and when one more is admitted.
-use Rattle.std.proofs.Common.{◌≡◌, refl, ap, sym, ◌∙◌, subst, ℕ, zero, suc, ◌+◌, ◌-◌, ◌<◌, ◌≤◌, ◌==◌, Bool, true, false, List, [], ◌∷◌, ◌++◌, length, map, drop, arith}
+use Rattle.std.proofs.Common.{◌≡◌, refl, ap, sym, ◌∙◌, subst, ℕ, zero, suc, ◌+◌, ◌-◌, ◌<◌, ◌==◌, Bool, true, false, List, [], ◌∷◌, ◌++◌, length, map, arith}
 use Rattle.std.proofs.Common.{Option, Some, None, is_some, position, slice_index_or, slice_set, length-append, cond}
-use Rattle.std.specs.Prelude.{IsSome, slice_get, bytes_eq, option_map, nat_le, if◌then◌else◌}
+use Rattle.std.specs.Prelude.{slice_get, bytes_eq, option_map, nat_le, if◌then◌else◌}
 use Rattle.std.specs.List.{AllByRecursion, IsDistinct, position_from}
 use Rattle.std.proofs.lemmas.Slice.Eq.{bytes_eq-Decides}
 use Rattle.std.proofs.lemmas.Iterator.Adapters.{position_from-zero}
@@ -10,10 +10,10 @@ use Rattle.std.proofs.lemmas.List.{map-append}
 use Rattle.sheet_requests.specs.declared.reply.Answer.{Answer}
 use Rattle.sheet_callers.specs.declared.admission.AdmitRefusal.TheVariants.{KeyTaken, NameTaken, TooMany}
 use Rattle.sheet_callers.specs.Admitting.{refused, most_callers}
-use Rattle.sheet_callers.specs.Callers.{Caller, KeptRequest, new_caller, operator, operator_name, caller_at, with_key, with_name}
+use Rattle.sheet_callers.specs.Callers.{Caller, KeptRequest, new_caller, operator, caller_at, with_key, with_name}
 use Rattle.sheet_callers.specs.Judging.{Judged, Fresh, Kept, Differs, Past, Ahead, judged, judged_again, judged_behind, kept_at}
-use Rattle.sheet_callers.specs.Keeping.{most_kept, last_of, with_kept, keeping, KeepsLast}
-use Rattle.sheet_callers.specs.Sound.{HasOperator, AreCallers}
+use Rattle.sheet_callers.specs.Keeping.{most_kept, with_kept, keeping, KeepsLast}
+use Rattle.sheet_callers.specs.Sound.{AreCallers}
 use Rattle.sheet_callers.proofs.CallerLemmas.{all_more, all_set, all_at, same_images, same_length, operator_more, operator_set, absent}
 use Rattle.sheet_callers.proofs.IndexLemmas.{position-map}
 use Rattle.sheet_callers.proofs.NumberLemmas.{keeps_last}

@@ -1,13 +1,12 @@
 -- How long request lines are.
-use Rattle.std.proofs.Common.{◌≡◌, refl, ap, sym, ℕ, suc, ℤ, pos, negsuc, ◌+◌, ◌*◌, ◌/◌, ◌%◌, ◌<◌, ◌≤◌, ◌^◌, Bool, true, false, cond, List, [], ◌∷◌, ◌++◌, length, arith, length-append}
-use Rattle.std.specs.Prelude.{nat_lt, nat_le, ◌==◌, ◌||◌, ◌&&◌, flat_map, map, codes, decimal, if◌then◌else◌}
-use Rattle.std.specs.Fmt.{signed_decimal}
+use Rattle.std.proofs.Common.{ℕ, suc, ℤ, pos, negsuc, ◌+◌, ◌*◌, ◌/◌, ◌%◌, ◌≤◌, Bool, true, false, cond, List, [], ◌∷◌, ◌++◌, length, arith, length-append}
+use Rattle.std.specs.Prelude.{nat_lt, nat_le, ◌&&◌, map, codes, decimal}
 use Rattle.std.specs.List.{AllByRecursion, list_all}
 use Rattle.std.specs.Char.{digit_char}
 use Rattle.std.proofs.lemmas.Bool.{leb-true}
 use Rattle.std.proofs.lemmas.Fmt.{length-decimal-le_wide}
 use Rattle.json.specs.Print.{escape_letter, escape_byte, escape, quoted}
-use Rattle.serde_json.specs.Data.{Data, string, number, object, array, boolean, Items, item, no_items, Members, member, no_members, unsigned, negative}
+use Rattle.serde_json.specs.Data.{Data, string, number, boolean, Members, member, no_members, unsigned}
 use Rattle.serde_json.specs.Find.{of_integer}
 use Rattle.serde_json.specs.View.{items_of}
 use Rattle.serde_json.specs.Written.{compact_text, items_text, members_text, comma_if, number_text}
@@ -16,7 +15,7 @@ use Rattle.sheet_values.specs.declared.value.Value.TheVariants.{Truth, Number, T
 use Rattle.sheet_meaning.proofs.Members.{both_true}
 use Rattle.sheet_requests.specs.Bodies.{value_data, values_data}
 use Rattle.sheet_requests.specs.Lines.{request_line}
-use Rattle.sheet_requests.specs.Reading.{greatest, is_key, is_key_byte, is_name}
+use Rattle.sheet_requests.specs.Reading.{greatest, is_key_byte}
 use Rattle.sheet_requests.specs.declared.request.Request.TheVariants.{Do, Admit}
 use Rattle.sheet_machine_laws.specs.Ranges.{IsSigned, IsArgument, IsKey, IsName, IsNumber}
 

@@ -1,5 +1,5 @@
 -- What a run leaves of the objects that were drawn, and what it replies.
-use Rattle.std.proofs.Common.{◌≡◌, refl, ap, sym, ◌∙◌, subst, ℕ, ◌<◌, ◌≤◌, ◌+◌, Bool, true, false, List, [], ◌∷◌, ◌++◌, length, Ok, Err, Option, Some, None, arith}
+use Rattle.std.proofs.Common.{◌≡◌, refl, ap, sym, ◌∙◌, subst, ℕ, ◌≤◌, Bool, true, false, List, [], ◌∷◌, ◌++◌, length, Ok, Err, Option, Some, None, arith}
 use Rattle.std.specs.Prelude.{zero, suc, map, ◌==◌, not, fold, filter, sum_by, is_some, cond, if◌then◌else◌, IfOk, Result}
 use Rattle.std.specs.List.{AllByRecursion, filter_map}
 use Rattle.std.proofs.lemmas.Bool.{true≢false, eqb-true, ne_eqb}
@@ -33,7 +33,6 @@ use Rattle.sheet_meaning.specs.WellFormed.{IsWellFormed, unfilled, stored_values
 use Rattle.sheet_meaning.specs.Workbook.{object_at, column_in, set_in}
 use Rattle.sheet_meaning.specs.declared.refusal.Refusal.{Refusal}
 use Rattle.sheet_meaning.specs.declared.refusal.Refusal.TheVariants.{CheckFailed, Denied}
-use Rattle.sheet_meaning.specs.declared.refusal.Which.{Which}
 use Rattle.sheet_meaning.specs.declared.refusal.Which.TheVariants as which
 use Rattle.sheet_meaning.specs.declared.run.Run.{Run}
 use Rattle.sheet_meaning.specs.declared.run.Use.{Use}

@@ -1,6 +1,6 @@
 -- What is held stays sound with each request.
-use Rattle.std.proofs.Common.{◌≡◌, refl, ap, sym, ◌∙◌, subst, ℕ, zero, suc, ◌+◌, ◌-◌, ◌<◌, ◌≤◌, ◌==◌, Bool, true, false, if◌then◌else◌, List, [], ◌∷◌, ◌++◌, length, drop, arith}
-use Rattle.std.proofs.Common.{Option, Some, None, Result, Ok, Err, slice_set}
+use Rattle.std.proofs.Common.{◌≡◌, refl, ap, sym, ◌∙◌, subst, ℕ, zero, suc, ◌+◌, ◌-◌, ◌<◌, ◌≤◌, Bool, true, false, if◌then◌else◌, List, [], ◌∷◌, ◌++◌, length, drop, arith}
+use Rattle.std.proofs.Common.{Option, Some, None, Result, Ok, Err}
 use Rattle.std.specs.Prelude.{nat_le, slice_get}
 use Rattle.std.specs.List.{AllByRecursion}
 use Rattle.std.proofs.lemmas.Bool.{leb-false, eqb-true}
@@ -14,13 +14,11 @@ use Rattle.sheet_books.specs.declared.body.Procedure.{Procedure}
 use Rattle.sheet_books.specs.declared.body.View.{View}
 use Rattle.sheet_books.specs.declared.book.Contents.{Contents}
 use Rattle.sheet_books.specs.Books.{IsWellTyped, IsWellTypedProcedure}
-use Rattle.sheet_books.specs.Schemas.{schema_of}
 use Rattle.sheet_books.proofs.SchemaLemmas.{books_start_well}
 use Rattle.sheet_meaning.specs.Arguments.{bad_argument, AreArguments}
 use Rattle.sheet_meaning.specs.Statements.{Point}
 use Rattle.sheet_meaning.specs.Workbook.{object_at, column_in}
 use Rattle.sheet_meaning.specs.declared.workbook.Caller.{Caller as Who}
-use Rattle.sheet_meaning.specs.declared.workbook.LiveObject.{LiveObject}
 use Rattle.sheet_meaning.specs.declared.refusal.Refusal.{Refusal as Stop}
 use Rattle.sheet_meaning.specs.declared.refusal.Which.TheVariants.{Requests}
 use Rattle.sheet_meaning.proofs.Fitting.{good_arguments_fit}
@@ -40,7 +38,7 @@ use Rattle.sheet_engine_types.proofs.Given.{all_more, appended}
 use Rattle.sheet_procs_laws.specs.Keeping.{IsCallerIn}
 use Rattle.sheet_procs_laws.proofs.Following.{Follows, follows_itself, set_drawn, set_drawn_still}
 use Rattle.sheet_procs_laws.proofs.Running.{procedures_leave_well_formed}
-use Rattle.sheet_machine_laws.specs.Act.{accept, most_requests, after_run, by_run, run_of, call, who, admit, admit_unless, by_page}
+use Rattle.sheet_machine_laws.specs.Act.{accept, most_requests, after_run, by_run, run_of, who, admit, admit_unless, by_page}
 use Rattle.sheet_machine_laws.specs.Judging.{Acted, refuse, caller_numbered, caller_found, by_number, where_good, procedure_at, procedure_found, view_found}
 use Rattle.sheet_machine_laws.specs.Machine.{Holding, start, workbook_of}
 use Rattle.sheet_machine_laws.specs.Sound.{IsFitting, IsKept, HasObject, IsCaller, IsSound}

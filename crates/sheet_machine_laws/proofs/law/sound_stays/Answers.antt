@@ -1,18 +1,15 @@
-use Rattle.std.proofs.Common.{◌≡◌, ◌==◌, ◌+◌, ◌≤◌, Some, ℕ, List, length, Bool, true, false, if◌then◌else◌, refl, subst}
+use Rattle.std.proofs.Common.{◌≡◌, ◌==◌, Some, ℕ, Bool, true, false, if◌then◌else◌, refl, subst}
 use Rattle.std.proofs.lemmas.Bool.{eqb-true}
-use Rattle.sheet_values.specs.declared.value.Value.{Value}
 use Rattle.sheet_books.specs.declared.body.View.{View}
 use Rattle.sheet_books.specs.Books.{procedure_with_name, view_with_name}
 use Rattle.sheet_requests.specs.Lines.{request_line}
-use Rattle.sheet_requests.specs.declared.request.Request.{Request}
 use Rattle.sheet_requests.specs.declared.request.Request.TheVariants.{Do, See, Reads, Admit, Stats}
 use Rattle.sheet_requests.specs.declared.reply.Reply.TheVariants as reply
 use Rattle.sheet_requests.specs.declared.reply.Refusal.TheVariants as refused
-use Rattle.sheet_callers.specs.Callers.{Caller, caller_at, with_key}
+use Rattle.sheet_callers.specs.Callers.{caller_at, with_key}
 use Rattle.sheet_machine_laws.specs.Act.{act, who, call, admit, by_page, page_of, support_reply, see, reads, counts}
 use Rattle.sheet_machine_laws.specs.Judging.{Acted, refuse, where_fresh, view_at}
 use Rattle.sheet_machine_laws.specs.Machine.{Holding}
-use Rattle.sheet_machine_laws.specs.Ranges.{IsInRange}
 use Rattle.sheet_machine_laws.specs.Sound.{IsSound}
 use Rattle.sheet_machine_laws.proofs.Lengths.{call_short, admission_short}
 use Rattle.sheet_machine_laws.proofs.Soundness.{found, fresh, call_sound, admit_sound, of_view, shows_sound}
