@@ -1,0 +1,5 @@
+pub mod Floats
+pub mod Steps
+pub mod Back
+pub mod Parts
+pub mod Whole

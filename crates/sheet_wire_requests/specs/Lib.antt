@@ -1,0 +1,6 @@
+pub mod Within
+pub mod Answers
+pub mod Fields
+pub mod Arguments
+pub mod Forms
+pub mod Ranges

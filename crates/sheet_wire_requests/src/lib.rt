@@ -1,0 +1,23 @@
+//! Requests and replies of the whole language, as JSON.
+#![tactic(auto)]
+
+mod argument;
+mod code;
+mod fault;
+mod field;
+mod form;
+mod line;
+mod page;
+mod part;
+mod read;
+mod refusal;
+mod refused;
+mod reply;
+mod request;
+mod routed;
+mod value;
+
+pub use code::code_of;
+pub use read::read_request;
+pub use reply::print_reply;
+pub use request::print_request;
