@@ -3,3 +3,4 @@ pub mod Steps
 pub mod Back
 pub mod Parts
 pub mod Whole
+pub mod Agreed

@@ -4,3 +4,4 @@ pub mod Fields
 pub mod Arguments
 pub mod Forms
 pub mod Ranges
+pub mod Agreeing

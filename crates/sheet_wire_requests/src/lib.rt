@@ -6,6 +6,7 @@ mod code;
 mod fault;
 mod field;
 mod form;
+mod law;
 mod line;
 mod page;
 mod part;
@@ -18,6 +19,7 @@ mod routed;
 mod value;
 
 pub use code::code_of;
+pub use law::lines_read_back;
 pub use read::read_request;
 pub use reply::print_reply;
 pub use request::print_request;
