@@ -1,5 +1,5 @@
 // The engine.
-ghost use Rattle.std.specs.Prelude.{◌≡◌, ◌++◌, [], ◌∷◌, ℕ, ◌<◌, ◌≤◌, length, take, slice_get, Some, None, IsSome, OnOk, OnErr, IfOk, IfErr};
+ghost use Rattle.std.specs.Prelude.{◌≡◌, ◌++◌, [], ◌∷◌, ℕ, ◌<◌, ◌≤◌, false, length, take, slice_get, Some, None, IsSome, OnOk, OnErr, IfOk, IfErr};
 ghost use Rattle.sheet_columns.specs.Tree.{column_of, above_of};
 ghost use Rattle.sheet_columns.specs.declared.tree.Column.TheVariants.{Object as object_column};
 ghost use Rattle.sheet_books.specs.Schemas.{schema_of};
@@ -8,8 +8,11 @@ ghost use Rattle.sheet_meaning.specs.Rounds.{meaning, value_of, settled_run};
 ghost use Rattle.sheet_meaning.specs.Start.{start_state};
 ghost use Rattle.sheet_meaning.specs.Workbook.{object_at, column_in};
 ghost use Rattle.sheet_meaning.specs.WellFormed.{HoldsKind};
+ghost use Rattle.sheet_values.specs.Sets.{contains};
+ghost use Rattle.sheet_values.specs.declared.value.Value.TheVariants.{Object};
 ghost use Rattle.sheet_meaning.specs.declared.run.Use.TheVariants.{Cell};
-ghost use Rattle.sheet_state.specs.Stored.{schema_of as columns_alone, book as book_of};
+ghost use Rattle.sheet_state.specs.Removals.{without_all};
+ghost use Rattle.sheet_state.specs.Stored.{schema_of as columns_alone, book as book_of, AreChanged};
 ghost use Rattle.sheet_state.specs.Limits.{first_full, Refuses};
 ghost use Rattle.sheet_engine.specs.Seen.{workbook_in, workbook_of, IsFormulaCell, keeps, keeps_after};
 ghost use Rattle.sheet_engine.specs.Standings.{stands, result_in};
@@ -18,7 +21,7 @@ ghost use Rattle.sheet_engine.specs.Started.{IsServed};
 use crate::settling::{settle, value_of};
 use crate::standings::{Standing, Standings};
 use sheet_books::Book;
-use sheet_columns::{Core, Fault, Place, Variables};
+use sheet_columns::{Core, Fault, Items, Place, Variables};
 use sheet_state::{Mark, State, StateRefusal};
 use sheet_values::{NoMemory, Set, Steps};
 use std::alloc::Global;
@@ -92,7 +95,8 @@ impl Engine {
 
     /// The state. It takes no memory.
     pub fn state(&self) -> &State
-        ensures { result.now ≡ self.now.state }
+        ensures state { result.now ≡ self.now.state }
+        ensures served { IsServed self.now.book self.now.state }
     {
         &self.state
     }
@@ -201,6 +205,21 @@ impl Engine {
     {
         self.state.delete(self.book.columns(), object)?;
         Ok(())
+    }
+
+    /// Takes the objects of a set away one after another, each with all below it, where it is still live, and every reference to
+    /// them out of all state cells; the items whose content this changed. It is one change. Nothing changes after the refusal.
+    pub fn delete_all(&mut self, objects: &Set) -> Result<Items, NoMemory>
+        requires not_root { contains (Object 0) objects.now ≡ false }
+        ensures state { OnOk result (self.new.state.present.state ≡ without_all self.old.state.present.state objects.now) }
+        ensures changed { IfOk result (λ items. AreChanged self.old.state.present.state self.new.state.present.state items) }
+        ensures earlier { OnOk result (self.new.state.earlier ≡ self.old.state.earlier ++ self.old.state.present ∷ []) }
+        ensures book { self.new.book ≡ self.old.book }
+        ensures kept { OnOk result (self.new.kept ≡ keeps_after (workbook_in self.old) (workbook_in self.new) self.old.kept) }
+        ensures unchanged { OnErr result (self.new ≡ self.old) }
+    {
+        let items = self.state.delete_all(self.book.columns(), objects)?;
+        Ok(items)
     }
 
     /// The mark of this time. It is good until the engine is undone to before it, or forgets. It takes no memory.

@@ -40,16 +40,16 @@ pub record LeadsTo (schema : Schema) (s t : State) : Type 0 where
   pub follows : Follows s t
 
 module _ (schema : Schema) (s : State) (formed : IsWellFormed (workbook schema s)) where
-  abbrev nodes : List Node
+  abbrev pub nodes : List Node
   nodes = schema.columns
 
-  carries : (t : State) → Carries nodes schema t
+  pub carries : (t : State) → Carries nodes schema t
   carries t = formulas_dont_matter nodes schema t (record { columns = refl; formulas = formed.formulas })
 
-  plain : IsWellFormed (book nodes s)
+  pub plain : IsWellFormed (book nodes s)
   plain = (carries s).well_formed.1 formed
 
-  changed_typed : (how : TheChange) (k : Kind) (old set : List Value) → IsSetOf s k old → IsSetOf s k set → IsSetOf s k (changed_set how old set)
+  pub changed_typed : (how : TheChange) (k : Kind) (old set : List Value) → IsSetOf s k old → IsSetOf s k set → IsSetOf s k (changed_set how old set)
   changed_typed Set k old set h g = g
   changed_typed Add k old set h g = of_union s k old set h g
   changed_typed Remove k old set h g = of_filter s k (λ x. agrees false (contains x set)) old h

@@ -148,7 +148,7 @@ module _ (s : Schema) where
 
   -- the turns of a loop over values of a type
   module _ (v u : List Kind) (k : Kind) (body : Point → Course) (goes : (q : Point) → IsTypedPoint s (v ++ k ∷ []) q → Passes u q.state (body q)) where
-    turn_passes : (x : Value) (p : Point) → IsTypedPoint s v p → HasKindWhereLive p.state k x → IsDrawn p.state.next x → Passes v p.state (course_turn body x p)
+    pub turn_passes : (x : Value) (p : Point) → IsTypedPoint s v p → HasKindWhereLive p.state k x → IsDrawn p.state.next x → Passes v p.state (course_turn body x p)
     turn_passes x p h g d =
         let inside = goes (with_variable p (x ∷ [])) (with_variable_typed v k p (x ∷ []) h ((tt, tt), (g, tt)) (d, tt)) in
         let whole : Passes u p.state (body (with_variable p (x ∷ []))) = record { formed = inside.formed; ends = inside.ends } in

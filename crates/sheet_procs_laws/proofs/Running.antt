@@ -1,6 +1,6 @@
 -- Well-typed statements and procedures keep a workbook well formed.
-use Rattle.std.proofs.Common.{◌≡◌, refl, ap, sym, ◌∙◌, subst, ℕ, ◌<◌, Bool, true, false, List, [], ◌∷◌, ◌++◌, length, Ok, Err, Option, Some, None, arith}
-use Rattle.std.specs.Prelude.{zero, suc, ◌&&◌, map, fold, sum_by, is_some, IsSome, IfOk, if◌then◌else◌, slice_index_or, Result}
+use Rattle.std.proofs.Common.{◌≡◌, refl, ap, sym, ◌∙◌, subst, ℕ, zero, suc, ◌<◌, Bool, true, false, List, [], ◌∷◌, ◌++◌, length, Ok, Err, Option, Some, None, arith}
+use Rattle.std.specs.Prelude.{◌&&◌, map, fold, sum_by, is_some, IsSome, IfOk, if◌then◌else◌, slice_index_or, Result}
 use Rattle.std.specs.List.{AllByRecursion, filter_map}
 use Rattle.std.proofs.lemmas.Bool.{eqb-true}
 use Rattle.sheet_values.specs.declared.value.Kind.{Kind}
@@ -56,17 +56,17 @@ use Rattle.sheet_procs_laws.proofs.Passing.{Arrives, Passes, quiet, refused, qui
 use Rattle.sheet_procs_laws.proofs.Passing.{from_passes, ended_passes, with_variable_typed, turns_pass}
 use Rattle.sheet_procs_laws.proofs.TypedBooks.{suiting, books_are_typed}
 
-where_was_so : {A : Type 0} (b : Bool) (a c : A) → where_so b a ≡ Some c → (b ≡ true) × (a ≡ c)
+pub where_was_so : {A : Type 0} (b : Bool) (a c : A) → where_so b a ≡ Some c → (b ≡ true) × (a ≡ c)
 where_was_so true a c e = (refl, let same : a ≡ c = cc in same)
 where_was_so false a c e = cc
 
 -- what a target's column stands under
-record IsPlaced (n : List Node) (o : Option Kind) (c : ℕ) : Type 0 where
-  above : ℕ
-  is : o ≡ Some (kind.Object above)
-  under : above_of n c ≡ Some above
+pub record IsPlaced (n : List Node) (o : Option Kind) (c : ℕ) : Type 0 where
+  pub above : ℕ
+  pub is : o ≡ Some (kind.Object above)
+  pub under : above_of n c ≡ Some above
 
-placed : (n : List Node) (o : Option Kind) (c : ℕ) → is_placed n o c ≡ true → IsPlaced n o c
+pub placed : (n : List Node) (o : Option Kind) (c : ℕ) → is_placed n o c ≡ true → IsPlaced n o c
 placed n None c e = cc
 placed n (Some kind.Unknown) c e = cc
 placed n (Some kind.Truth) c e = cc
@@ -78,25 +78,25 @@ placed n (Some (kind.Object a)) c e = record { above = a; is = refl; under = num
     number_is a None e = cc
     number_is a (Some b) e = ap Some (sym (eqb-true a b e))
 
-some_column : (o : Option LiveObject) (c : ℕ) → column_in o ≡ Some c → IsSome o
+pub some_column : (o : Option LiveObject) (c : ℕ) → column_in o ≡ Some c → IsSome o
 some_column None c e = cc
 some_column (Some x) c e = refl
 
 module _ (s : Schema) (sound : IsSoundSchema s) where
-  abbrev n : List Node
+  abbrev pub n : List Node
   n = s.columns
 
-  abbrev k : List Kind
+  abbrev pub k : List Kind
   k = kinds_from 0 n
 
   -- a formula of a statement gives a set of its type
-  value_typed : (v : List Kind) (p : Point) (i : ℕ) (e : Core) (x : Kind) → IsTypedPoint s v p → kind_in e n k v ≡ Some x →
+  pub value_typed : (v : List Kind) (p : Point) (i : ℕ) (e : Core) (x : Kind) → IsTypedPoint s v p → kind_in e n k v ≡ Some x →
       Gives (IsSetOf p.state x) (formula s p i e)
   value_typed v p i e x h got =
       record { is = values_have_kinds (workbook s p.state) e (place.Statement i) v p.variables x h.formed sound.formulas got h.kinds }
 
   -- a target's object is one of its column
-  target_typed : (v : List Kind) (p : Point) (i : ℕ) (t : Target) (a : ℕ) → IsTypedPoint s v p → kind_in t.object n k v ≡ Some (kind.Object a) →
+  pub target_typed : (v : List Kind) (p : Point) (i : ℕ) (t : Target) (a : ℕ) → IsTypedPoint s v p → kind_in t.object n k v ≡ Some (kind.Object a) →
       Gives (λ (o : ℕ). HasKind p.state (kind.Object a) (value.Object o)) (target_object s p i t)
   target_typed v p i t a h got =
       finished (IsSetOf p.state (kind.Object a)) (λ (o : ℕ). HasKind p.state (kind.Object a) (value.Object o))
@@ -231,7 +231,7 @@ module _ (s : Schema) (sound : IsSoundSchema s) where
   as_kinds : (a u : List Kind) (t : State) (c : Course) → Some a ≡ Some u → Passes s a t c → Passes s u t c
   as_kinds a u t c e h = let same : a ≡ u = cc in subst (λ l. Passes s l t c) same h
 
-  deletable : (o : Option Kind) → is_deletable n o ≡ true → (x : Kind) × (o ≡ Some x) × (is_deletable n (Some x) ≡ true)
+  pub deletable : (o : Option Kind) → is_deletable n o ≡ true → (x : Kind) × (o ≡ Some x) × (is_deletable n (Some x) ≡ true)
   deletable None e = cc
   deletable (Some x) e = (x, refl, e)
 
@@ -268,7 +268,7 @@ module _ (s : Schema) (sound : IsSoundSchema s) where
       (λ o g. makes v t.column place.above o q (keeping_typed s v target.uses p h) tests.1 place.under g)
 
   mutual
-    goes : (x : CoreStatement) (v u : List Kind) (p : Point) → IsTypedPoint s v p → behind x n k v ≡ Some u → Passes s u p.state (course x s p)
+    pub goes : (x : CoreStatement) (v u : List Kind) (p : Point) → IsTypedPoint s v p → behind x n k v ≡ Some u → Passes s u p.state (course x s p)
     goes (Let i e) v u p h got =
         let c = came (kind_in e n k v) (λ y. Some (v ++ y ∷ [])) u got in
         let r = formula s p i e in
@@ -333,14 +333,14 @@ module _ (s : Schema) (sound : IsSoundSchema s) where
         (λ set g. quiet_within s v q ((which.Reply, sum_by value_weight set, max_reply) ∷ []) (record q { reply = set })
         (record { formed = h.formed; kinds = h.kinds; drawn = h.drawn }) refl))
 
-    block_goes : {m : _} (row : Row_of-CoreStatement m) (v u : List Kind) (p : Point) → IsTypedPoint s v p → behind_all row n k v ≡ Some u →
+    pub block_goes : {m : _} (row : Row_of-CoreStatement m) (v u : List Kind) (p : Point) → IsTypedPoint s v p → behind_all row n k v ≡ Some u →
         Passes s u p.state (course_block row s p)
     block_goes end v u p h got = as_kinds v u p.state (still p (Ok p)) got (quiet s v p p h refl)
     block_goes (more x rest) v u p h got =
         let c = came (behind x n k v) (λ y. behind_all rest n k y) u got in
         next_passes s c.from u p.state (course x s p) (course_block rest s) (goes x v c.from p h c.is) (λ q i f. block_goes rest c.from u q i c.gives)
 
-  statements_go : (xs : List CoreStatement) (v u : List Kind) (p : Point) → IsTypedPoint s v p → behind_list xs n k v ≡ Some u →
+  pub statements_go : (xs : List CoreStatement) (v u : List Kind) (p : Point) → IsTypedPoint s v p → behind_list xs n k v ≡ Some u →
       Passes s u p.state (course_statements xs s p)
   statements_go [] v u p h got = as_kinds v u p.state (still p (Ok p)) got (quiet s v p p h refl)
   statements_go (x ∷ xs) v u p h got =
@@ -363,12 +363,12 @@ statements_stay_well_formed s xs v u p sound got h =
       ends = λ q e. (g.ends q e).typed;
     }
 
-some_is : {A : Type 0} (o : Option A) → is_some o ≡ true → (x : A) × (o ≡ Some x)
+pub some_is : {A : Type 0} (o : Option A) → is_some o ≡ true → (x : A) × (o ≡ Some x)
 some_is None e = cc
 some_is (Some x) e = (x, refl)
 
 -- the arguments are variables of their parameters' types
-arguments_typed : (w : Workbook) → IsWellFormed w → (ps : List (List ℕ × Kind)) (vs : List Value) → AreArguments w.state ps vs →
+pub arguments_typed : (w : Workbook) → IsWellFormed w → (ps : List (List ℕ × Kind)) (vs : List Value) → AreArguments w.state ps vs →
     HaveKinds w.state (map (λ (p : List ℕ × Kind). p.1) ps) (map (λ a. a ∷ []) vs) × AreDrawn w.state (map (λ a. a ∷ []) vs)
 arguments_typed w formed [] [] h = (tt, tt)
 arguments_typed w formed [] (v ∷ vs) h = absurd h
@@ -378,13 +378,13 @@ arguments_typed w formed (p ∷ ps) (v ∷ vs) h =
     ((((tt, tt), (where_live w.state p.1 v h.0, tt)), rest.0), (set_drawn w formed p.1 (v ∷ []) (h.0, tt), rest.1))
 
 -- so is the caller
-caller_typed : (s : State) (callers : ℕ) (o : Option ℕ) → IsCallerIn s callers o →
+pub caller_typed : (s : State) (callers : ℕ) (o : Option ℕ) → IsCallerIn s callers o →
     IsVariableOf s (kind.Object callers) (objects_of o) × AllByRecursion (IsDrawn s.next) (objects_of o)
 caller_typed s callers None h = ((tt, tt), tt)
 caller_typed s callers (Some o) h = (((tt, tt), (h.1, tt)), (h.0, tt))
 
 module _ (s : Schema) where
-  allow_goes : (v : List Kind) (allow : Core) (p : Point) → IsTypedPoint s v p → Passes s v p.state (course_of_allow s allow p)
+  pub allow_goes : (v : List Kind) (allow : Core) (p : Point) → IsTypedPoint s v p → Passes s v p.state (course_of_allow s allow p)
   allow_goes v allow p h =
       let r = truth (place.Statement 0) (formula s p 0 allow) in
       from_passes s Any v (r.uses ∷ []) r p (λ holds y. still y (if holds then Ok y else Err Denied)) (any r)
@@ -409,7 +409,7 @@ went_on (Ok p) f q e = (p, e)
 went_on (Err x) f q e = cc
 
 -- the types of state columns are known where columns hold what is in the tree
-knows_states : (nodes ms : List Node) → AllByRecursion (λ (n : Node). IsHeldIn nodes n.column) ms → KnowsStates ms
+pub knows_states : (nodes ms : List Node) → AllByRecursion (λ (n : Node). IsHeldIn nodes n.column) ms → KnowsStates ms
 knows_states nodes [] held c k one first is = cc
 knows_states nodes (m ∷ ms) held zero k one first is =
     let same : m.column ≡ column.State k one first = cc in

@@ -1,0 +1,12 @@
+pub mod Going
+pub mod Outcomes
+pub mod Room
+pub mod Typing
+pub mod Changing
+pub mod Listed
+pub mod Blocks
+pub mod Starting
+pub mod Cutting
+pub mod Judging
+pub mod Performing
+pub mod Sizes
