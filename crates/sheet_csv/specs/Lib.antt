@@ -1,0 +1,5 @@
+pub mod Fields
+pub mod Rows
+pub mod Readers
+pub mod Turns
+pub mod Pages
