@@ -1,7 +1,7 @@
 -- How each statement goes on from its formulas, and blocks and turns from their statements.
 use Rattle.std.proofs.Common.{◌≡◌, refl, sym, ap, ◌∙◌, subst, ℕ, Bool, true, false, List, [], ◌∷◌, ◌++◌, length, take, Ok, Err, Some}
-use Rattle.std.specs.Prelude.{Result, if◌then◌else◌, is_some, IfOk}
-use Rattle.std.specs.List.{filter_map, AllByRecursion}
+use Rattle.std.specs.Prelude.{Result, if◌then◌else◌, IfOk}
+use Rattle.std.specs.List.{filter_map}
 use Rattle.sheet_values.specs.declared.value.Kind.{Kind}
 use Rattle.sheet_values.specs.declared.value.Kind.TheVariants as kind
 use Rattle.sheet_values.specs.declared.value.Value.{Value}
@@ -14,12 +14,11 @@ use Rattle.sheet_columns.specs.declared.statement.CoreStatement.{CoreStatement, 
 use Rattle.sheet_columns.specs.declared.statement.Statements.{Statements}
 use Rattle.sheet_columns.specs.declared.statement.Target.{Target}
 use Rattle.sheet_engine_types.proofs.OneKind.{came, set_where_live}
-use Rattle.sheet_engine_types.specs.Types.{IsSetOf, HasKindWhereLive}
-use Rattle.sheet_meaning.specs.Drawn.{IsDrawn}
+use Rattle.sheet_engine_types.specs.Types.{IsSetOf}
 use Rattle.sheet_meaning.specs.Formula.{object_in, truth_in, truth}
 use Rattle.sheet_meaning.specs.Run.{Outcome, after, both, both_outcomes, the_one}
 use Rattle.sheet_meaning.specs.Statements.{Point, Course, workbook, formula, target_object, with_variable, store, make, remove_all, answer}
-use Rattle.sheet_meaning.specs.Statements.{ended, course, course_statements, course_ended, course_turn, course_turns, run_statement, run_statements}
+use Rattle.sheet_meaning.specs.Statements.{ended, course_statements, course_ended, course_turn, course_turns, run_statement, run_statements}
 use Rattle.sheet_meaning.specs.Statements.{is_present, still}
 use Rattle.sheet_meaning.specs.Support.{Cell}
 use Rattle.sheet_meaning.specs.declared.refusal.Refusal.{Refusal}
@@ -31,7 +30,7 @@ use Rattle.sheet_types_rules.specs.Formulas.{kind_in, ◌>>◌}
 use Rattle.sheet_types_rules.specs.Statements.{where_so, suits, behind, behind_list}
 use Rattle.sheet_procs_laws.specs.Keeping.{IsTypedPoint}
 use Rattle.sheet_procs_laws.proofs.Following.{set_drawn, values_follow, set_drawn_still}
-use Rattle.sheet_procs_laws.proofs.Passing.{Arrives, with_variable_typed, turn_passes}
+use Rattle.sheet_procs_laws.proofs.Passing.{with_variable_typed, turn_passes}
 use Rattle.sheet_procs_laws.proofs.Running.{goes, statements_go, value_typed}
 use Rattle.sheet_procs_touched.specs.Touched.{Covers}
 use Rattle.sheet_procs.specs.Runs.{point, Comes, Runs}

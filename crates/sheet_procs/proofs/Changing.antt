@@ -1,5 +1,5 @@
 -- What the changes of statements come to.
-use Rattle.std.proofs.Common.{◌≡◌, refl, sym, ap, ◌∙◌, subst, ℕ, ◌+◌, ◌≤◌, Bool, true, false, List, [], ◌∷◌, ◌++◌, length, take, arith, Option, Some, None, Ok, Err}
+use Rattle.std.proofs.Common.{◌≡◌, refl, sym, ap, ◌∙◌, subst, ℕ, true, false, List, [], ◌∷◌, ◌++◌, length, take, Option, None, Ok, Err}
 use Rattle.std.specs.Prelude.{Result, OnOk, fold, is_some, nat_lt, sum_by, if◌then◌else◌}
 use Rattle.std.specs.List.{filter_map}
 use Rattle.sheet_values.specs.declared.value.Value.{Value}
@@ -21,9 +21,8 @@ use Rattle.sheet_meaning.specs.declared.refusal.Which.{Which}
 use Rattle.sheet_meaning.specs.declared.refusal.Which.TheVariants as which
 use Rattle.sheet_meaning.specs.declared.workbook.Schema.{Schema}
 use Rattle.sheet_meaning.specs.declared.workbook.State.{State}
-use Rattle.sheet_state.specs.Limits.{full_of, first_full, Refuses}
+use Rattle.sheet_state.specs.Limits.{first_full, Refuses}
 use Rattle.sheet_state.specs.Removals.{without_live, without_all}
-use Rattle.sheet_state.specs.Schemas.{Carries}
 use Rattle.sheet_state.specs.Stored.{Stored, AreChanged, book, schema_of as columns_alone}
 use Rattle.sheet_state.specs.declared.refusal.StateRefusal.{StateRefusal}
 use Rattle.sheet_state.specs.declared.refusal.StateRefusal.TheVariants as state_refused

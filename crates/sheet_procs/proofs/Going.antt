@@ -1,7 +1,7 @@
 -- How runs over an engine go on, one after another.
-use Rattle.std.proofs.Common.{◌≡◌, refl, sym, ap, ◌∙◌, subst, ℕ, zero, suc, List, [], ◌∷◌, ◌++◌, length, take, append_assoc, Ok, Err}
+use Rattle.std.proofs.Common.{◌≡◌, refl, sym, ap, ◌∙◌, subst, List, [], ◌∷◌, ◌++◌, length, take, append_assoc, Ok, Err}
 use Rattle.std.specs.Prelude.{Result}
-use Rattle.std.proofs.lemmas.List.{append-nil, take_all}
+use Rattle.std.proofs.lemmas.List.{append-nil}
 use Rattle.sheet_books.specs.declared.book.Contents.{Contents}
 use Rattle.sheet_books.specs.Schemas.{schema_of}
 use Rattle.sheet_columns.specs.declared.fault.Fault.{Fault}
@@ -14,7 +14,7 @@ use Rattle.sheet_meaning.specs.declared.run.Run.{Run}
 use Rattle.sheet_meaning.specs.declared.workbook.Schema.{Schema}
 use Rattle.sheet_state.specs.Stored.{Moment, Stored}
 use Rattle.sheet_procs_touched.specs.Touched.{Covers}
-use Rattle.sheet_procs.specs.Runs.{point, IsRefusal, Comes, history, GoesBack, Ends, Runs}
+use Rattle.sheet_procs.specs.Runs.{point, IsRefusal, Comes, history, GoesBack, Runs}
 use Rattle.sheet_procs.specs.declared.refusal.ProcedureRefusal.{ProcedureRefusal}
 use Rattle.sheet_procs.specs.declared.refusal.ProcedureRefusal.TheVariants as refused
 use Rattle.sheet_procs.specs.declared.progress.Progress.{Progress}

@@ -1,6 +1,6 @@
 -- Arguments judged one after another.
-use Rattle.std.proofs.Common.{◌≡◌, refl, sym, ap, ◌∙◌, ℕ, zero, suc, ◌+◌, ◌≤◌, Bool, true, false, List, [], ◌∷◌, ◌++◌, length, take, drop, get_or, ◌<◌, arith, append_assoc, Option, Some, None, eq-eqb}
-use Rattle.std.specs.Prelude.{◌==◌, map, slice_get, if◌then◌else◌}
+use Rattle.std.proofs.Common.{◌≡◌, refl, sym, ap, ◌∙◌, ℕ, zero, suc, ◌+◌, ◌≤◌, true, false, List, [], ◌∷◌, ◌++◌, length, take, drop, get_or, ◌<◌, arith, append_assoc, Some, None, eq-eqb}
+use Rattle.std.specs.Prelude.{map, slice_get, if◌then◌else◌}
 use Rattle.std.proofs.lemmas.List.{take_more, take_all}
 use Rattle.sheet_values.specs.declared.value.Kind.{Kind}
 use Rattle.sheet_values.specs.declared.value.Value.{Value}

@@ -12,8 +12,8 @@ use Rattle.sheet_columns.specs.declared.statement.CoreStatement.TheBlock.{hidden
 use Rattle.sheet_columns.specs.declared.statement.Statements.{Statements}
 use Rattle.sheet_columns.specs.declared.tree.Node.{Node}
 use Rattle.sheet_meaning.specs.Formula.{truth}
-use Rattle.sheet_meaning.specs.Statements.{Point, Course, course_next, course_block, course_statements, course_turns, ended, formula, from_run}
-use Rattle.sheet_meaning.specs.Statements.{course, course_ended, run_statement, run_statements}
+use Rattle.sheet_meaning.specs.Statements.{Point, Course, course_next, course_block, course_statements, course_turns, formula, from_run}
+use Rattle.sheet_meaning.specs.Statements.{course, course_ended, run_statement}
 use Rattle.sheet_meaning.specs.declared.refusal.Refusal.{Refusal}
 use Rattle.sheet_meaning.specs.declared.workbook.Schema.{Schema}
 use Rattle.sheet_types_rules.specs.Formulas.{kind_in, ◌>>◌}

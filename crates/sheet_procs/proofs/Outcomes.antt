@@ -1,9 +1,6 @@
 -- The outcomes of the formulas of statements.
-use Rattle.std.proofs.Common.{◌≡◌, sym, ap, ◌∙◌, Ok, Err}
-use Rattle.std.specs.Prelude.{Result}
-use Rattle.sheet_columns.specs.declared.fault.Fault.{Fault}
-use Rattle.sheet_columns.specs.declared.fault.Fault.TheVariants as fault
-use Rattle.sheet_meaning.specs.Run.{Outcome, after, both_outcomes, outranked}
+use Rattle.std.proofs.Common.{◌≡◌, ap, Ok, Err}
+use Rattle.sheet_meaning.specs.Run.{Outcome, after, both_outcomes}
 use Rattle.sheet_procs.specs.Runs.{Comes}
 use Rattle.sheet_procs.specs.declared.refusal.ProcedureRefusal.{ProcedureRefusal}
 use Rattle.sheet_procs.specs.declared.refusal.ProcedureRefusal.TheVariants as refused

@@ -5,17 +5,16 @@ use Rattle.sheet_values.specs.declared.value.Value.{Value}
 use Rattle.sheet_books.specs.declared.body.Procedure.{Procedure}
 use Rattle.sheet_books.specs.declared.book.Contents.{Contents}
 use Rattle.sheet_books.specs.Schemas.{schema_of}
-use Rattle.sheet_engine.specs.Seen.{Seen, workbook_in}
+use Rattle.sheet_engine.specs.Seen.{Seen}
 use Rattle.sheet_meaning.specs.Procedure.{test_filled}
 use Rattle.sheet_meaning.specs.Statements.{Point, workbook, next}
-use Rattle.sheet_meaning.specs.Support.{Cell}
 use Rattle.sheet_meaning.specs.WellFormed.{IsFilled}
 use Rattle.sheet_meaning.specs.declared.refusal.Refusal.{Refusal}
 use Rattle.sheet_meaning.specs.declared.workbook.Caller.{Caller}
 use Rattle.sheet_state.specs.Stored.{Stored}
-use Rattle.sheet_procs.specs.Acts.{Acts, ActsAs}
+use Rattle.sheet_procs.specs.Acts.{ActsAs}
 use Rattle.sheet_procs.specs.Performing.{first_progress, parts, Performed, Closes}
-use Rattle.sheet_procs.specs.Runs.{point, IsRefusal, GoesBack, Runs}
+use Rattle.sheet_procs.specs.Runs.{point, Runs}
 use Rattle.sheet_procs.specs.declared.progress.Progress.{Progress}
 use Rattle.sheet_procs.specs.declared.refusal.ProcedureRefusal.{ProcedureRefusal}
 use Rattle.sheet_procs.specs.declared.refusal.ProcedureRefusal.TheVariants as refused

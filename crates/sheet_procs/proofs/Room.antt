@@ -1,5 +1,5 @@
 -- Counts against their limits.
-use Rattle.std.proofs.Common.{◌≡◌, refl, sym, ap, ◌∙◌, ℕ, ◌+◌, ◌<◌, ◌≤◌, Bool, true, false, [], ◌∷◌, arith, Option, Some, None, Ok, Err, lt-ltb}
+use Rattle.std.proofs.Common.{◌≡◌, refl, sym, ap, ◌∙◌, ℕ, ◌+◌, ◌≤◌, Bool, true, false, [], ◌∷◌, arith, Option, Some, None, Err, lt-ltb}
 use Rattle.std.specs.Prelude.{nat_lt, if◌then◌else◌, Result}
 use Rattle.std.proofs.lemmas.Bool.{ltb-true}
 use Rattle.sheet_meaning.specs.Statements.{Point, within}

@@ -1,5 +1,5 @@
 -- How many statements there are, those inside others counted: blocks have fewer than the statements that hold them.
-use Rattle.std.proofs.Common.{◌≡◌, refl, sym, ap, ◌∙◌, ℕ, zero, suc, ◌+◌, ◌<◌, ◌≤◌, List, [], ◌∷◌, length, get_or, arith}
+use Rattle.std.proofs.Common.{◌≡◌, refl, ap, ◌∙◌, ℕ, zero, suc, ◌+◌, ◌<◌, ◌≤◌, List, [], ◌∷◌, length, get_or, arith}
 use Rattle.sheet_columns.specs.declared.formula.Core.{Core}
 use Rattle.sheet_columns.specs.declared.statement.CoreStatement.{CoreStatement, Let, Change, New, Delete, Check, If, If', For, For', Reply, Row_of-CoreStatement}
 use Rattle.sheet_columns.specs.declared.statement.CoreStatement.{end_of-CoreStatement, more_of-CoreStatement, items-the_row-CoreStatement}

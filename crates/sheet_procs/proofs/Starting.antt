@@ -1,49 +1,42 @@
 -- Where the run of a procedure begins, and how it ends.
-use Rattle.std.proofs.Common.{◌≡◌, refl, sym, ap, ◌∙◌, subst, ℕ, zero, suc, ◌≤◌, Bool, true, false, List, [], ◌∷◌, ◌++◌, length, take, arith, Ok, Err, Option, Some, None}
-use Rattle.std.specs.Prelude.{Result, slice_get, is_some, if◌then◌else◌}
-use Rattle.std.proofs.lemmas.List.{append-nil}
+use Rattle.std.proofs.Common.{◌≡◌, refl, sym, ap, ◌∙◌, subst, ℕ, ◌≤◌, Bool, true, false, List, [], ◌∷◌, ◌++◌, length, take, arith, Ok, Err, Some, None}
+use Rattle.std.specs.Prelude.{slice_get, if◌then◌else◌}
 use Rattle.sheet_values.specs.declared.value.Value.{Value}
 use Rattle.sheet_books.specs.declared.body.Procedure.{Procedure}
 use Rattle.sheet_books.specs.declared.book.Contents.{Contents}
-use Rattle.sheet_books.specs.Books.{kinds_at_start, IsWellTyped, IsWellTypedProcedure}
+use Rattle.sheet_books.specs.Books.{kinds_at_start, IsWellTypedProcedure}
 use Rattle.sheet_books.specs.Schemas.{schema_of}
 use Rattle.sheet_books.proofs.SchemaLemmas.{books_start_well}
 use Rattle.sheet_columns.specs.Statements.{statements_in}
 use Rattle.sheet_columns.specs.Tree.{IsTree}
 use Rattle.sheet_columns.specs.declared.fault.Place.TheVariants as place
 use Rattle.sheet_columns.specs.declared.formula.Core.{Core}
-use Rattle.sheet_engine.specs.Seen.{Seen, workbook_in}
 use Rattle.sheet_engine.specs.Started.{IsServed}
-use Rattle.sheet_engine_types.specs.Types.{HaveKinds}
 use Rattle.sheet_meaning.specs.Arguments.{AreArguments}
 use Rattle.sheet_meaning.specs.Formula.{truth}
-use Rattle.sheet_meaning.specs.Procedure.{first_variables, admit, refuse_unfilled, test_filled}
-use Rattle.sheet_meaning.specs.Statements.{Point, workbook, formula, next, run_statements}
-use Rattle.sheet_meaning.specs.Support.{Cell}
-use Rattle.sheet_meaning.specs.WellFormed.{IsWellFormed, IsFilled, unfilled}
+use Rattle.sheet_meaning.specs.Procedure.{admit, refuse_unfilled, test_filled}
+use Rattle.sheet_meaning.specs.Statements.{Point, workbook, formula}
+use Rattle.sheet_meaning.specs.WellFormed.{IsWellFormed, unfilled}
 use Rattle.sheet_meaning.specs.Workbook.{set_in}
-use Rattle.sheet_meaning.specs.declared.refusal.Refusal.{Refusal}
 use Rattle.sheet_meaning.specs.declared.refusal.Refusal.TheVariants as meant
 use Rattle.sheet_meaning.specs.declared.workbook.Caller.{Caller}
 use Rattle.sheet_meaning.specs.declared.workbook.Schema.{Schema}
-use Rattle.sheet_state.specs.Stored.{Moment, Stored, IsStored}
+use Rattle.sheet_state.specs.Stored.{Moment, Stored}
 use Rattle.sheet_state.proofs.Schemas.{formulas_dont_matter}
 use Rattle.sheet_types_rules.specs.Columns.{kinds_from}
 use Rattle.sheet_types_rules.specs.Statements.{behind_list}
-use Rattle.sheet_procs_laws.specs.Keeping.{IsSoundSchema, IsCallerIn, IsTypedPoint}
+use Rattle.sheet_procs_laws.specs.Keeping.{IsCallerIn}
 use Rattle.sheet_procs_laws.proofs.Running.{arguments_typed, caller_typed, knows_states, some_is}
 use Rattle.sheet_procs_laws.proofs.TypedBooks.{books_are_typed}
-use Rattle.sheet_procs_touched.specs.Touched.{Covers}
-use Rattle.sheet_procs_touched.proofs.Covering.{filled_is_covered}
 use Rattle.sheet_procs.specs.Acts.{CanUndo}
 use Rattle.sheet_procs.specs.Performing.{first_progress}
-use Rattle.sheet_procs.specs.Runs.{point, IsRefusal, Comes, history, GoesBack, Ends, Runs}
+use Rattle.sheet_procs.specs.Runs.{Comes, GoesBack, Runs}
 use Rattle.sheet_procs.specs.Typed.{MayRun}
 use Rattle.sheet_procs.specs.declared.progress.Progress.{Progress}
 use Rattle.sheet_procs.specs.declared.refusal.ProcedureRefusal.{ProcedureRefusal}
 use Rattle.sheet_procs.specs.declared.refusal.ProcedureRefusal.TheVariants as refused
 use Rattle.sheet_procs.proofs.Blocks.{truth_outcome}
-use Rattle.sheet_procs.proofs.Going.{UnderWay, begins, goes_on, known, not_known, ends_on, refusal_moved}
+use Rattle.sheet_procs.proofs.Going.{known, not_known}
 
 -- what is served is a well-formed workbook of the book's own schema
 pub served_formed : (b : Contents) (k : Stored) → IsServed b k → IsWellFormed (workbook (schema_of b) k.present.state)

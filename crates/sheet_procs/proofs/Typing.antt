@@ -1,6 +1,6 @@
 -- What the types of statements say of the values that they act on.
-use Rattle.std.proofs.Common.{◌≡◌, refl, sym, ap, ◌∙◌, subst, ℕ, ◌<◌, Bool, true, false, List, [], ◌∷◌, ◌++◌, arith, Ok, Option, Some, None}
-use Rattle.std.specs.Prelude.{◌&&◌, ◌||◌, is_some, IsSome, IfOk, slice_index_or}
+use Rattle.std.proofs.Common.{◌≡◌, refl, sym, ap, ◌∙◌, subst, ℕ, ◌<◌, Bool, true, false, List, [], ◌∷◌, ◌++◌, arith, Ok, Some}
+use Rattle.std.specs.Prelude.{◌&&◌, ◌||◌, IfOk, slice_index_or}
 use Rattle.std.specs.List.{filter_map, AllByRecursion}
 use Rattle.std.specs.Ordering.{is_eq}
 use Rattle.sheet_values.specs.Order.{value_cmp}
@@ -11,13 +11,12 @@ use Rattle.sheet_values.specs.declared.value.Value.{Value}
 use Rattle.sheet_values.specs.declared.value.Value.TheVariants as value
 use Rattle.sheet_books.specs.declared.book.Contents.{Contents}
 use Rattle.sheet_books.specs.Schemas.{schema_of}
-use Rattle.sheet_columns.specs.Tree.{column_of, above_of}
+use Rattle.sheet_columns.specs.Tree.{column_of}
 use Rattle.sheet_columns.specs.declared.fault.Place.TheVariants as place
 use Rattle.sheet_columns.specs.declared.formula.Core.{Core}
 use Rattle.sheet_columns.specs.declared.statement.Change.{Change as TheChange}
 use Rattle.sheet_columns.specs.declared.statement.CoreStatement.{Change, New, Delete}
 use Rattle.sheet_columns.specs.declared.statement.Target.{Target}
-use Rattle.sheet_columns.specs.declared.tree.Column.TheVariants as column
 use Rattle.sheet_engine_types.specs.Types.{IsSetOf}
 use Rattle.sheet_engine_types.proofs.Contents.{object_there, state_there, stored_typed}
 use Rattle.sheet_engine_types.proofs.OneKind.{becomes}
@@ -26,8 +25,8 @@ use Rattle.sheet_meaning.specs.Formula.{object_in}
 use Rattle.sheet_meaning.specs.Rounds.{value_of}
 use Rattle.sheet_meaning.specs.Run.{Outcome, after, both_outcomes, the_one}
 use Rattle.sheet_meaning.specs.Statements.{workbook}
-use Rattle.sheet_meaning.specs.WellFormed.{HasKind, HoldsKind, IsWellFormed}
-use Rattle.sheet_meaning.specs.Workbook.{object_at, column_in, set_in}
+use Rattle.sheet_meaning.specs.WellFormed.{HasKind, HoldsKind}
+use Rattle.sheet_meaning.specs.Workbook.{object_at, set_in}
 use Rattle.sheet_meaning.proofs.Members.{both_true}
 use Rattle.sheet_state.specs.Stored.{Stored}
 use Rattle.sheet_state_references.proofs.Inserted.{value_is}
@@ -37,7 +36,7 @@ use Rattle.sheet_types_rules.specs.Statements.{suits, is_placed, is_deletable, c
 use Rattle.sheet_procs_laws.proofs.Changing.{changed_typed, below_root}
 use Rattle.sheet_procs_laws.proofs.Running.{where_was_so, placed, some_column, value_typed, target_typed, deletable}
 use Rattle.sheet_procs_laws.proofs.TypedBooks.{suiting}
-use Rattle.sheet_procs.specs.Runs.{point, Comes}
+use Rattle.sheet_procs.specs.Runs.{point}
 use Rattle.sheet_procs.specs.Typed.{MayRun, MayStore, MayMake, MayDelete}
 use Rattle.sheet_procs.specs.declared.progress.Progress.{Progress}
 use Rattle.sheet_procs.proofs.Outcomes.{both_known}

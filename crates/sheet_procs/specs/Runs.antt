@@ -1,6 +1,5 @@
 -- How statements that run over an engine go, against their definition.
-use Rattle.std.specs.Prelude.{◌≡◌, ℕ, List, [], ◌∷◌, ◌++◌, length, take, Result, Ok, Err, OnOk}
-use Rattle.sheet_values.specs.declared.value.Value.{Value}
+use Rattle.std.specs.Prelude.{◌≡◌, List, [], ◌∷◌, ◌++◌, length, take, Result, Ok, Err, OnOk}
 use Rattle.sheet_books.specs.declared.book.Contents.{Contents}
 use Rattle.sheet_books.specs.Schemas.{schema_of}
 use Rattle.sheet_meaning.specs.Run.{Outcome}

@@ -1,4 +1,4 @@
-use Rattle.std.proofs.Common.{◌≡◌, ap, sym, ◌∙◌, subst, false, Ok, rules}
+use Rattle.std.proofs.Common.{◌≡◌, false, Ok, rules}
 use Rattle.std.specs.Prelude.{nat_lt, sum_by}
 use Rattle.sheet_columns.specs.declared.statement.CoreStatement.{Reply}
 use Rattle.sheet_books.specs.Schemas.{schema_of}

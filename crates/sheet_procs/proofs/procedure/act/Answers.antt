@@ -6,7 +6,7 @@ use Rattle.sheet_meaning.specs.Statements.{workbook}
 use Rattle.sheet_types_rules.specs.Statements.{behind_list}
 use Rattle.sheet_procs_touched.specs.Touched.{Covers}
 use Rattle.sheet_procs_touched.proofs.Covering.{filled_is_covered}
-use Rattle.sheet_procs.specs.Performing.{first_progress, parts, behind_allow, Performed}
+use Rattle.sheet_procs.specs.Performing.{parts, behind_allow, Performed}
 use Rattle.sheet_procs.specs.Typed.{MayRun}
 use Rattle.sheet_procs.specs.declared.progress.Progress.{Progress}
 use Rattle.sheet_procs.proofs.Performing.{then_performed, refused_performed}

@@ -5,7 +5,6 @@ use Rattle.sheet_columns.specs.declared.formula.Core.{Core}
 use Rattle.sheet_columns.specs.declared.statement.CoreStatement.{CoreStatement, If, For}
 use Rattle.sheet_columns.specs.declared.statement.Statements.{Statements}
 use Rattle.sheet_meaning.specs.Statements.{is_present, ended, run_statement, run_statements, course_statements, course_turn, course_turns}
-use Rattle.sheet_state.specs.Stored.{Stored}
 use Rattle.sheet_types_rules.specs.Statements.{behind, behind_list}
 use Rattle.sheet_procs.specs.Resting.{MayRunKeeping}
 use Rattle.sheet_procs.specs.Runs.{point, Runs}
