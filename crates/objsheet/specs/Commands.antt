@@ -1,5 +1,5 @@
 -- The commands.
-use Rattle.std.specs.Prelude.{◌≡◌, ℕ, List, [], ◌∷◌, codes, Option, Some, None, Vec}
+use Rattle.std.specs.Prelude.{◌≡◌, ◌⊎◌, ℕ, List, [], ◌∷◌, codes, Option, Some, None, Vec}
 use Rattle.std.specs.Global.{Global}
 use Rattle.sheet_lines.specs.Lines.{printed}
 use Rattle.objsheet.specs.declared.command.Command.{Command}
@@ -19,6 +19,14 @@ IsCheck words = IsWord (codes "check") words
 abbrev pub IsTry : List (Vec ℕ Global) → Type 0
 IsTry words = IsWord (codes "try") words
 
+-- the words are those of no command
+abbrev pub IsOther : List (Vec ℕ Global) → Type 0
+IsOther words = (IsCheck words → ⊥) × (IsTry words → ⊥)
+
+-- the words are those of a command
+abbrev pub IsCommand : List (Vec ℕ Global) → Type 0
+IsCommand words = IsCheck words ⊎ IsTry words
+
 -- the line of words that are no command
 abbrev pub usage : List ℕ
 usage = printed (codes "usage")
@@ -27,4 +35,4 @@ usage = printed (codes "usage")
 abbrev pub Names : Option Command → List (Vec ℕ Global) → Type 0
 Names (Some Check) words = IsCheck words × (IsTry words → ⊥)
 Names (Some Try) words = IsTry words × (IsCheck words → ⊥)
-Names None words = (IsTry words → ⊥) × (IsCheck words → ⊥)
+Names None words = IsOther words
