@@ -14,9 +14,11 @@ use Rattle.sheet_csv.specs.Rows.{Fields}
 abbrev pub Records : Type 0
 Records = ByteRecordsIntoIter (Bor (List ℕ))
 
+-- the reader that gives the records
 abbrev pub reader_of : Records → Reader (Bor (List ℕ))
 reader_of r = owned_rows_reader r
 
+-- where that reader stands
 abbrev pub state_of : Records → State
 state_of r = reader_state (reader_of r)
 
@@ -48,6 +50,7 @@ pub record Takes (before after : Records) (row : Row) : Type 0 where
   pub few : length (fields_of row) ≤ length (left_of before) + 1
   pub took : next_record default_config (state_of before) [] [] (left_of before) ≡ Some (fields_of row, state_of after, left_of after)
 
+-- the next record is given, or there is none left
 abbrev pub Steps : Records → Records → Option Row → Type 0
 Steps before after None = next_record default_config (state_of before) [] [] (left_of before) ≡ None
 Steps before after (Some row) = Takes before after row

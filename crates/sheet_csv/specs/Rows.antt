@@ -50,10 +50,12 @@ slot_of header p = record { kind = p.1; place = place_in header p.0 }
 abbrev pub judged_missing : List Parameter → Fields → Result (List Slot) CsvRefusal
 judged_missing parameters header = if lacks_parameter parameters header then Err (BadHeader (length header + 1)) else Ok (map (slot_of header) parameters)
 
+-- the first bad field refuses; else what follows stands
 abbrev pub judged_field : Option ℕ → Result (List Slot) CsvRefusal → Result (List Slot) CsvRefusal
 judged_field None otherwise = otherwise
 judged_field (Some k) otherwise = Err (BadHeader k)
 
+-- the slots of a header, or its refusal: its first bad field, then a parameter that it lacks
 abbrev pub judged_header : List Parameter → Fields → Result (List Slot) CsvRefusal
 judged_header parameters header = judged_field (bad_field parameters [] header) (judged_missing parameters header)
 
@@ -80,6 +82,7 @@ abbrev pub with_row : List Value → Result (List (List Value)) CsvRefusal → R
 with_row row (Ok rows) = Ok (row ∷ rows)
 with_row row (Err e) = Err e
 
+-- a row before others, or the refusal of the record with this number
 abbrev pub row_then : Option (List Value) → ℕ → Result (List (List Value)) CsvRefusal → Result (List (List Value)) CsvRefusal
 row_then None number rows = Err (BadRow number)
 row_then (Some row) number rows = with_row row rows
