@@ -1,2 +1,7 @@
 pub mod Commands
+pub mod Lines
+pub mod Runs
+pub mod Requests
+pub mod Serving
+pub mod Outcomes
 pub mod Ran

@@ -4,7 +4,7 @@ use Rattle.std.specs.Prelude.{◌⊎◌}
 use Rattle.sheet_outside.specs.Told.{Gains, WhereTold}
 use Rattle.sheet_lines.specs.Told.{GainsFront}
 use Rattle.objsheet_check.specs.Checking.{IsChecked, IsCheckedInput, IsUnfit, HasNoBook, Takes, IsCutOff}
-use Rattle.objsheet_try.specs.Trying.{IsDone, IsRead, IsRefused, HasCauseOfRefusal, IsStopped, IsBrokenOff}
+use Rattle.objsheet.specs.Trying.{IsDone, IsRead, IsRefused, HasCauseOfRefusal, IsStopped, IsBrokenOff}
 use Rattle.objsheet.specs.Commands.{usage}
 use Rattle.objsheet.specs.Ran.{Outside, ends, SourceFailed, SinkFailed, Checks, Tries, Misuses}
 use Rattle.objsheet.specs.Ran.Checks.{has_book, has_none, is_unread, is_cut_off, has_no_room}

@@ -1,2 +1,5 @@
 pub mod Commands
+pub mod Sessions
+pub mod Trying
+pub mod Serving
 pub mod Ran

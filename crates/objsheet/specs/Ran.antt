@@ -5,7 +5,7 @@ use Rattle.sheet_outside.specs.Causes.{Rose}
 use Rattle.sheet_outside.specs.Told.{Gains, WhereTold}
 use Rattle.sheet_lines.specs.Told.{Ends, both, GainsFront}
 use Rattle.objsheet_check.specs.Checking.{IsChecked, IsCheckedInput, IsUnfit, HasNoBook, Takes, IsCutOff}
-use Rattle.objsheet_try.specs.Trying.{IsDone, IsRead, IsRefused, HasCauseOfRefusal, IsStopped, IsBrokenOff}
+use Rattle.objsheet.specs.Trying.{IsDone, IsRead, IsRefused, HasCauseOfRefusal, IsStopped, IsBrokenOff}
 use Rattle.objsheet.specs.Commands.{IsCheck, IsTry, IsOther, usage}
 
 -- what stands outside of the program: the bytes left of the input and how often it failed, those written to the output and how often it failed

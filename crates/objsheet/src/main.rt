@@ -2,7 +2,11 @@
 #![tactic(auto)]
 
 mod command;
+mod opening;
 mod run;
+mod session;
+mod stop;
+mod trying;
 
 use crate::run::run;
 use objsheet_status::{OUT_OF_MEMORY, SINK_FAILED, SOURCE_FAILED};
@@ -47,6 +51,3 @@ fn explanation(status: u8) -> Option<&'static str> {
         _ => None,
     }
 }
-
-#[cfg(test)]
-mod tests;

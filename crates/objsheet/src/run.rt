@@ -5,9 +5,9 @@ ghost use Rattle.objsheet.specs.Commands.{IsCommand, IsOther};
 ghost use Rattle.objsheet.specs.Ran.{Ran, outside};
 
 use crate::command::{Command, command_of};
+use crate::trying::try_lines;
 use objsheet_check::check;
 use objsheet_status::{USAGE, write_last_line};
-use objsheet_try::try_lines;
 use sheet_outside::{Sink, Source};
 use std::alloc::Global;
 

@@ -5,3 +5,4 @@ mod checking;
 mod phrase;
 
 pub use checking::check;
+pub use phrase::{definition_line, type_line};

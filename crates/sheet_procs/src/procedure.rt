@@ -17,7 +17,6 @@ ghost use Rattle.sheet_procs.specs.Runs.{Runs};
 ghost use Rattle.sheet_procs.specs.Typed.{MayRun};
 
 use crate::ProcedureRefusal;
-use crate::arguments::first_variables;
 use crate::formulas::truth_of;
 use crate::progress::Progress;
 use crate::statements::run_statements;
@@ -26,6 +25,7 @@ use sheet_columns::Core;
 use sheet_engine::Engine;
 use sheet_meaning::Caller;
 use sheet_procs_touched::Touched;
+use sheet_state_arguments::first_variables;
 use sheet_values::{NoMemory, Set, Steps, Values};
 use std::alloc::Global;
 use std::sync::ledger::Ledger;

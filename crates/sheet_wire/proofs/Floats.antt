@@ -1,5 +1,5 @@
--- No reply has a float.
-use Rattle.std.proofs.Common.{◌≡◌, List, [], ◌∷◌, map, false, refl, ℤ, pos, negsuc, Result, Ok, Err}
+-- No request and no reply has a float.
+use Rattle.std.proofs.Common.{◌≡◌, ℕ, List, [], ◌∷◌, map, false, refl, ℤ, pos, negsuc, Result, Ok, Err}
 use Rattle.serde_json.specs.Data.{Data, string}
 use Rattle.serde_json.specs.Find.{of_integer, is_float}
 use Rattle.serde_json.specs.View.{items_of}
@@ -14,11 +14,21 @@ use Rattle.sheet_columns.specs.declared.fault.Fault.TheVariants as fault
 use Rattle.sheet_columns.specs.declared.page.Part.{Part}
 use Rattle.sheet_columns.specs.declared.page.Part.TheVariants.{Show, Table}
 use Rattle.sheet_columns.specs.declared.page.Row.{Row}
-use Rattle.sheet_wire.specs.declared.reply.Reply.{Reply}
-use Rattle.sheet_wire.specs.declared.reply.Reply.TheVariants.{Accepted, Page, Wire, Refused}
-use Rattle.sheet_wire.specs.declared.reply.Answer.TheVariants.{Values}
-use Rattle.sheet_wire.specs.declared.reply.Refusal.TheVariants as refused
-use Rattle.sheet_wire.specs.Replies.{value_data, place_data, fault_data, shown_data, row_data, rows_data, part_data, reply_data}
+use Rattle.sheet_columns.specs.declared.item.Item.{Item}
+use Rattle.sheet_columns.specs.declared.item.Item.TheVariants.{Live, Up, Extent, Stored}
+use Rattle.sheet_requests.specs.declared.reply.Reply.{Reply}
+use Rattle.sheet_requests.specs.declared.reply.Reply.TheVariants.{Accepted, Kept, Page, Reads, Stats, Wire, Refused}
+use Rattle.sheet_requests.specs.declared.reply.Answer.{Answer}
+use Rattle.sheet_requests.specs.declared.reply.Answer.TheVariants.{Values, Caller}
+use Rattle.sheet_requests.specs.declared.reply.Refusal.{Refusal}
+use Rattle.sheet_requests.specs.declared.reply.Refusal.TheVariants as refused
+use Rattle.sheet_requests.specs.declared.request.Request.{Request}
+use Rattle.sheet_requests.specs.declared.request.Request.TheVariants as asked
+use Rattle.sheet_requests.specs.declared.request.WireRefusal.{WireRefusal}
+use Rattle.sheet_requests.specs.declared.request.WireRefusal.TheVariants as wire
+use Rattle.sheet_requests.specs.Bodies.{value_data, place_data, fault_data, shown_data, row_data, rows_data}
+use Rattle.sheet_requests.specs.Bodies.{part_data, item_data, answer_data, wire_data, refusal_data, reply_data}
+use Rattle.sheet_requests.specs.Lines.{request_data}
 
 -- a list has none where its elements have none
 all : {A : Type 0} (data_of : A → Data) → ((x : A) → has_float (data_of x) ≡ false) → (xs : List A) → items_have_float (items_of (map data_of xs)) ≡ false
@@ -62,8 +72,55 @@ part : (nodes : List Node) (p : Part) → has_float (part_data nodes p) ≡ fals
 part nodes (Show name s) = rw (shown nodes s)
 part nodes (Table name names rs) = rw (all string (λ s. refl) names, rows nodes rs)
 
+item : (nodes : List Node) (i : Item) → has_float (item_data nodes i) ≡ false
+item nodes (Live o) = refl
+item nodes (Up o) = refl
+item nodes (Extent o c) = refl
+item nodes (Stored o c) = refl
+
+answer : (n : ℕ) (a : Answer) → has_float (answer_data n a) ≡ false
+answer n (Values set) = rw (all value_data value set)
+answer n (Caller c) = refl
+
+wire_part : (r : WireRefusal) → has_float (wire_data r) ≡ false
+wire_part wire.NotJson = refl
+wire_part (wire.BadShape f) = refl
+wire_part (wire.NumberOutside f) = refl
+wire_part (wire.TextTooLong f) = refl
+wire_part wire.LaterForm = refl
+wire_part wire.NoMemory = refl
+
+refusal : (nodes : List Node) (r : Refusal) → has_float (refusal_data nodes r) ≡ false
+refusal nodes refused.DiskFault = refl
+refusal nodes refused.UnknownKey = refl
+refusal nodes refused.NotOperator = refl
+refusal nodes (refused.Past last) = refl
+refusal nodes refused.Differs = refl
+refusal nodes (refused.Ahead last) = refl
+refusal nodes refused.UnknownName = refl
+refusal nodes (refused.BadArgument k) = refl
+refusal nodes (refused.KeyTaken c) = refl
+refusal nodes (refused.NameTaken c) = refl
+refusal nodes (refused.TooMany limit) = refl
+refusal nodes refused.Denied = refl
+refusal nodes (refused.CheckFailed k message) = refl
+refusal nodes (refused.FormulaFault f) = rw (fault_part nodes f)
+refusal nodes (refused.Full w limit) = refl
+refusal nodes (refused.NotOneCell o c n) = refl
+refusal nodes refused.NoMemory = refl
+
 pub reply : (nodes : List Node) (r : Reply) → has_float (reply_data nodes r) ≡ false
-reply nodes (Accepted n (Values set)) = rw (all value_data value set)
+reply nodes (Accepted n a) = answer n a
+reply nodes (Kept n a) = answer n a
 reply nodes (Page parts) = rw (all (part_data nodes) (part nodes) parts)
-reply nodes (Wire refusal) = refl
-reply nodes (Refused refused.NoMemory) = refl
+reply nodes (Reads items) = rw (all (item_data nodes) (item nodes) items)
+reply nodes (Stats accepted callers kept objects) = refl
+reply nodes (Wire r) = wire_part r
+reply nodes (Refused r) = refusal nodes r
+
+pub request : (q : Request) → has_float (request_data q) ≡ false
+request (asked.Do key name n arguments) = rw (all value_data value arguments)
+request (asked.See key name arguments) = rw (all value_data value arguments)
+request (asked.Reads key name arguments) = rw (all value_data value arguments)
+request (asked.Admit key newkey name n o) = refl
+request (asked.Stats key) = refl

@@ -1,2 +1,6 @@
-pub mod Replies
-pub mod Requests
+pub mod Answers
+pub mod Fields
+pub mod Arguments
+pub mod Forms
+pub mod Ranges
+pub mod Agreeing

@@ -1,9 +1,0 @@
-pub mod Words
-pub mod Tokens
-pub mod Lexing
-pub mod Gives
-pub mod Grammar
-pub mod Parsing
-pub mod Names
-pub mod Naming
-pub mod FirstForm

@@ -1,7 +1,0 @@
-pub mod Within
-pub mod Answers
-pub mod Fields
-pub mod Arguments
-pub mod Forms
-pub mod Ranges
-pub mod Agreeing
