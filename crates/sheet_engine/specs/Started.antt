@@ -95,6 +95,11 @@ pub record IsUnderWay (b : Contents) (k : Stored) (es : Entries) (fs : List Fram
   pub waiting : AllByRecursion (IsWaiting b k) fs
   pub chained : Chained (workbook_of b k) (cells_started fs)
 
+-- a well-typed book with a state of its columns, and results that are found in it, where no cell waits
+pub record IsWorked (b : Contents) (k : Stored) (es : Entries) : Type 0 where
+  pub served : IsServed b k
+  pub found : IsUnderWay b k es []
+
 -- a cell that may be started: the first one, or one that the last one reads
 abbrev pub MayStart : Contents → Stored → List Frame → Cell → Type 0
 MayStart b k fs x = (fs ≡ []) ⊎ LastReads (workbook_of b k) (cells_started fs) x

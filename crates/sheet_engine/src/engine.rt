@@ -16,7 +16,7 @@ ghost use Rattle.sheet_state.specs.Stored.{schema_of as columns_alone, book as b
 ghost use Rattle.sheet_state.specs.Limits.{first_full, Refuses};
 ghost use Rattle.sheet_engine.specs.Seen.{workbook_in, workbook_of, IsFormulaCell, keeps, keeps_after};
 ghost use Rattle.sheet_engine.specs.Standings.{stands, result_in};
-ghost use Rattle.sheet_engine.specs.Started.{IsServed};
+ghost use Rattle.sheet_engine.specs.Started.{IsServed, IsUnderWay};
 
 use crate::settling::{settle, value_of};
 use crate::standings::{Standing, Standings};
@@ -35,18 +35,20 @@ pub struct EngineMark {
     state: Mark,
 }
 
-/// A book, and the state of its workbook.
+/// A book, and the state of its workbook. Results of formula cells that were found stay until the workbook changes, so that who asks
+/// again doesn't wait; none of them counts as kept.
 #[derive(Drop)]
 pub struct Engine {
     book: Rc<Book>,
     state: State,
+    standings: Standings,
     alloc: Global,
 }
 
 impl Model for Engine {
     ghost use Rattle.std.specs.Prelude.{[]};
     ghost use Rattle.sheet_engine.specs.Seen.{Seen};
-    ghost use Rattle.sheet_engine.specs.Started.{IsServed};
+    ghost use Rattle.sheet_engine.specs.Started.{IsWorked};
     ghost use Rattle.sheet_columns.specs.contracts.formula.Core as core;
     ghost use Rattle.sheet_columns.specs.contracts.statement.CoreStatement as statement;
     ghost use Rattle.sheet_columns.specs.contracts.statement.Statements as statements;
@@ -58,7 +60,7 @@ impl Model for Engine {
 
     ghost view = { λ e. record { book = e.book.value; state = e.state; kept = [] } };
 
-    ghost invariant = { λ e. IsServed e.book.value e.state };
+    ghost invariant = { λ e. IsWorked e.book.value e.state e.standings };
 }
 
 impl Engine {
@@ -71,7 +73,12 @@ impl Engine {
     {
         let state = State::new(alloc, book.columns())?;
         match Rc::new(alloc, book) {
-            Ok(book) => Ok(Engine { book, state, alloc }),
+            Ok(book) => Ok(Engine {
+                book,
+                state,
+                standings: Standings::new(alloc),
+                alloc,
+            }),
             Err(_) => Err(NoMemory),
         }
     }
@@ -122,7 +129,21 @@ impl Engine {
         ensures state { self.new.state ≡ self.old.state }
         ensures kept { OnOk result (self.new.kept ≡ keeps (workbook_in self.old) (Cell object column ∷ []) self.old.kept) }
     {
-        settled(self.alloc, &self.book, &self.state, object, column, steps)
+        match settled(
+            self.alloc,
+            &self.book,
+            &self.state,
+            &mut self.standings,
+            object,
+            column,
+            steps,
+        ) {
+            Ok(value) => Ok(value),
+            Err(NoMemory) => {
+                self.standings = Standings::new(self.alloc);
+                Err(NoMemory)
+            }
+        }
     }
 
     /// The value of an expression.
@@ -138,15 +159,22 @@ impl Engine {
         ensures state { self.new.state ≡ self.old.state }
         ensures kept { OnOk result (self.new.kept ≡ keeps (workbook_in self.old) (settled_run (workbook_in self.old) core.now place variables.now).uses self.old.kept) }
     {
-        value_of(
+        match value_of(
             self.alloc,
             &self.book,
             &self.state,
+            &mut self.standings,
             core,
             place,
             variables,
             steps,
-        )
+        ) {
+            Ok(value) => Ok(value),
+            Err(NoMemory) => {
+                self.standings = Standings::new(self.alloc);
+                Err(NoMemory)
+            }
+        }
     }
 
     /// Puts a set into a state cell of a live object.
@@ -169,6 +197,7 @@ impl Engine {
             Ok(items) => items,
             Err(refusal) => return Err(refusal),
         };
+        self.standings = Standings::new(self.alloc);
         Ok(())
     }
 
@@ -190,6 +219,7 @@ impl Engine {
             Ok(made) => made,
             Err(refusal) => return Err(refusal),
         };
+        self.standings = Standings::new(self.alloc);
         Ok(made.0)
     }
 
@@ -204,6 +234,7 @@ impl Engine {
         ensures unchanged { OnErr result (self.new ≡ self.old) }
     {
         self.state.delete(self.book.columns(), object)?;
+        self.standings = Standings::new(self.alloc);
         Ok(())
     }
 
@@ -219,6 +250,7 @@ impl Engine {
         ensures unchanged { OnErr result (self.new ≡ self.old) }
     {
         let items = self.state.delete_all(self.book.columns(), objects)?;
+        self.standings = Standings::new(self.alloc);
         Ok(items)
     }
 
@@ -239,6 +271,7 @@ impl Engine {
         ensures book { self.new.book ≡ self.old.book }
     {
         self.state.undo_to(mark.state);
+        self.standings = Standings::new(self.alloc);
     }
 
     /// Drops what undo keeps. No earlier mark is good any more. It takes no memory.
@@ -249,24 +282,27 @@ impl Engine {
         ensures kept { self.new.kept ≡ self.old.kept }
     {
         self.state.forget();
+        self.standings = Standings::new(self.alloc);
     }
 }
 
-// The settled result of a cell.
+// The settled result of a cell. Where memory is refused, some cells may be left that wait.
 fn settled<G: Ledger>(
     alloc: Global,
     book: &Book,
     state: &State,
+    standings: &mut Standings,
     object: u64,
     column: u32,
     steps: &mut Steps<G>,
 ) -> Result<Result<Set, Fault>, NoMemory>
     requires served { IsServed book.now state.now }
-    ensures { IfOk result (λ v. v ≡ meaning (workbook_of book.now state.now) object column) }
+    requires under_way { IsUnderWay book.now state.now standings.old [] }
+    ensures value { IfOk result (λ v. v ≡ meaning (workbook_of book.now state.now) object column) }
+    ensures under_way { OnOk result (IsUnderWay book.now state.now standings.new []) }
 {
-    let mut standings = Standings::new(alloc);
-    settle(alloc, book, state, &mut standings, object, column, steps)?;
-    result_of(&standings, object, column)
+    settle(alloc, book, state, standings, object, column, steps)?;
+    result_of(standings, object, column)
 }
 
 // A copy of a cell's result; `cycle` where it has none.

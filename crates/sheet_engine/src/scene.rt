@@ -7,8 +7,8 @@ ghost use Rattle.sheet_engine.specs.Started.{IsServed, ResultsHold, CellComesTo,
 
 use crate::standings::{Standing, Standings};
 use sheet_books::Book;
-use sheet_columns::{Column, Core, Fault, Place, Reads, Variables};
-use sheet_eval::{Lookup, Outcome, evaluate};
+use sheet_columns::{Column, Core, Fault, Place, Variables};
+use sheet_eval::{Lookup, Outcome, evaluate_unread};
 use sheet_state::State;
 use sheet_values::{NoMemory, Set, Steps, Value};
 use std::alloc::Global;
@@ -111,8 +111,7 @@ fn evaluated<G: Ledger>(
         standings,
         cycle: &cycle,
     };
-    let mut reads = Reads::new(alloc);
-    evaluate(alloc, core, place, variables, &scene, &mut reads, steps)
+    evaluate_unread(alloc, core, place, variables, &scene, steps)
 }
 
 /// Works out an expression: its value, or the cells that it needs before.

@@ -27,27 +27,27 @@ struct Frame {
     next: usize,
 }
 
-/// The value of an expression, with the results of all cells that it reaches.
+/// The value of an expression, with the results of all cells that it reaches. Where memory is refused, some cells may be left that wait.
 pub(crate) fn value_of<G: Ledger>(
     alloc: Global,
     book: &Book,
     state: &State,
+    standings: &mut Standings,
     core: &Core,
     place: Place,
     variables: &Variables,
     steps: &mut Steps<G>,
 ) -> Result<Result<Set, Fault>, NoMemory>
     requires served { IsServed book.now state.now }
-    ensures { IfOk result (λ v. v ≡ value_of (workbook_of book.now state.now) core.now place variables.now) }
+    requires under_way { IsUnderWay book.now state.now standings.old [] }
+    ensures value { IfOk result (λ v. v ≡ value_of (workbook_of book.now state.now) core.now place variables.now) }
+    ensures under_way { OnOk result (IsUnderWay book.now state.now standings.new []) }
 {
-    let mut standings = Standings::new(alloc);
     'turns: loop {
-        match work_expression(
-            alloc, book, state, &standings, core, place, variables, steps,
-        )? {
+        match work_expression(alloc, book, state, standings, core, place, variables, steps)? {
             Outcome::Known(set) => return Ok(Ok(set)),
             Outcome::Fault(fault) => return Ok(Err(fault)),
-            Outcome::Need(cells) => settle_all(alloc, book, state, &mut standings, &cells, steps)?,
+            Outcome::Need(cells) => settle_all(alloc, book, state, standings, &cells, steps)?,
         }
     }
 }

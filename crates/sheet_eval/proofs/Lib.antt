@@ -4,4 +4,5 @@ pub mod FormLemmas
 pub mod PartLemmas
 pub mod Picking
 pub mod Reading
+pub mod StepLemmas
 pub mod TotalLemmas

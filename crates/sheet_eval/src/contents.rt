@@ -117,8 +117,25 @@ fn next_step<'a, L: Lookup>(
     }
 }
 
+// What a step from a single value gives.
+fn step_from_one<'a, L: Lookup>(
+    scene: &Scene<'a, L>,
+    value: &Value,
+    way: Way,
+    uses: &mut Uses,
+) -> Result<Result<Part<'a>, Fault>, NoMemory>
+    ensures { IfOk result (λ o. Came (step (way_of (world_told (L.told scene.now.lookup.now)) way) (value.now ∷ [])) uses.old o uses.new) }
+{
+    match value {
+        Value::Object(object) => way_from(scene, *object, way, uses),
+        Value::Truth(_) => Ok(Ok(Part::own(Set::empty(scene.alloc)))),
+        Value::Number(_) => Ok(Ok(Part::own(Set::empty(scene.alloc)))),
+        Value::Text(_) => Ok(Ok(Part::own(Set::empty(scene.alloc)))),
+    }
+}
+
 // The union of what a step from each object gives.
-fn step_from<'a, L: Lookup>(
+fn step_from_each<'a, L: Lookup>(
     scene: &Scene<'a, L>,
     set: &Set,
     way: Way,
@@ -131,6 +148,22 @@ fn step_from<'a, L: Lookup>(
         so_far = next_step(scene, set.at(k), way, uses, so_far)?;
     }
     united(scene.alloc, so_far)
+}
+
+// What a step from a set gives: most sets have one value, and then nothing is gathered.
+fn step_from<'a, L: Lookup>(
+    scene: &Scene<'a, L>,
+    set: &Set,
+    way: Way,
+    uses: &mut Uses,
+) -> Result<Result<Part<'a>, Fault>, NoMemory>
+    ensures { IfOk result (λ o. Came (step (way_of (world_told (L.told scene.now.lookup.now)) way) set.now) uses.old o uses.new) }
+{
+    if set.len() == 1 {
+        step_from_one(scene, set.at(0), way, uses)
+    } else {
+        step_from_each(scene, set, way, uses)
+    }
 }
 
 /// A step from what is known.

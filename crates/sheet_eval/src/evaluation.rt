@@ -3,7 +3,7 @@ ghost use Rattle.std.specs.Prelude.{◌≡◌, ◌+◌, [], ◌∷◌, IfOk, OnO
 ghost use Rattle.sheet_meaning.specs.Formula.{run};
 ghost use Rattle.sheet_meaning.specs.Support.{with_cells};
 ghost use Rattle.sheet_eval.specs.Answer.{IsAnswer, Answers};
-ghost use Rattle.sheet_eval.specs.Told.{world_told, Came, lacks, used_cells, used_items, with_items};
+ghost use Rattle.sheet_eval.specs.Told.{world_told, noted, Came, lacks, used_cells, used_items, with_items};
 
 use crate::lookup::Lookup;
 use crate::scene::Scene;
@@ -43,11 +43,44 @@ pub fn evaluate<L: Lookup, G: Ledger>(
 {
     steps.tick();
     let mut uses = Uses::new(alloc);
-    let outcome = outcome_of(alloc, core, place, variables, lookup, &mut uses)?;
-    let need = lacking(alloc, uses.cells(), lookup)?;
-    let answer = answer(outcome, need)?;
+    let answer = answered(alloc, core, place, variables, lookup, &mut uses)?;
     uses.tell(reads)?;
     Ok(answer)
+}
+
+/// As `evaluate`, for who doesn't want to know what is read.
+pub fn evaluate_unread<L: Lookup, G: Ledger>(
+    alloc: Global,
+    core: &Core,
+    place: Place,
+    variables: &Variables,
+    lookup: &L,
+    steps: &mut Steps<G>,
+) -> Result<Outcome, NoMemory>
+    ensures answer { IfOk result (λ a. IsAnswer (L.told lookup.now) (run core.now (world_told (L.told lookup.now)) place variables.now) a) }
+    ensures ticks { steps.new ≡ steps.old + 1 }
+{
+    steps.tick();
+    let mut uses = Uses::of_cells(alloc);
+    answered(alloc, core, place, variables, lookup, &mut uses)
+}
+
+// The answer, where nothing was used before.
+fn answered<L: Lookup>(
+    alloc: Global,
+    core: &Core,
+    place: Place,
+    variables: &Variables,
+    lookup: &L,
+    uses: &mut Uses,
+) -> Result<Outcome, NoMemory>
+    requires { uses.old.cells ≡ [] }
+    ensures answer { IfOk result (λ a. IsAnswer (L.told lookup.now) (run core.now (world_told (L.told lookup.now)) place variables.now) a) }
+    ensures uses { OnOk result (uses.new ≡ noted uses.old (run core.now (world_told (L.told lookup.now)) place variables.now).uses) }
+{
+    let outcome = outcome_of(alloc, core, place, variables, lookup, uses)?;
+    let need = lacking(alloc, uses, lookup)?;
+    answer(outcome, need)
 }
 
 // What the formula comes to, where none of its comprehensions has bound a variable yet.
@@ -72,14 +105,27 @@ fn outcome_of<'a, L: Lookup>(
 }
 
 // The cells that the lookup lacks.
-fn lacking<L: Lookup>(alloc: Global, cells: &Cells, lookup: &L) -> Result<Cells, NoMemory>
-    ensures { IfOk result (λ need. need ≡ with_cells [] (filter (lacks (L.told lookup.now)) cells.now)) }
+fn lacking<L: Lookup>(alloc: Global, uses: &Uses, lookup: &L) -> Result<Cells, NoMemory>
+    ensures { IfOk result (λ need. need ≡ with_cells [] (filter (lacks (L.told lookup.now)) uses.now.cells)) }
 {
     let mut need = Cells::new(alloc);
-    for k in 0..cells.len() {
-        note_lacking(cells.at(k), lookup, &mut need)?;
+    match uses.first_cell() {
+        None => Ok(need),
+        Some(cell) => {
+            note_lacking(cell, lookup, &mut need)?;
+            note_others(uses.other_cells(), lookup, &mut need)?;
+            Ok(need)
+        }
     }
-    Ok(need)
+}
+
+fn note_others<L: Lookup>(cells: &Cells, lookup: &L, need: &mut Cells) -> Result<(), NoMemory>
+    ensures { OnOk result (need.new ≡ with_cells need.old (filter (lacks (L.told lookup.now)) cells.now)) }
+{
+    for k in 0..cells.len() {
+        note_lacking(cells.at(k), lookup, need)?;
+    }
+    Ok(())
 }
 
 fn note_lacking<L: Lookup>(cell: (u64, u32), lookup: &L, need: &mut Cells) -> Result<(), NoMemory>

@@ -10,5 +10,5 @@ mod scene;
 mod total;
 mod working;
 
-pub use evaluation::{Outcome, evaluate};
+pub use evaluation::{Outcome, evaluate, evaluate_unread};
 pub use lookup::Lookup;

@@ -1,5 +1,7 @@
 -- Items as keys in their order.
-use Rattle.std.specs.Prelude.{◌≡◌, ℕ, ◌==◌, if◌then◌else◌}
+use Rattle.std.specs.Prelude.{◌≡◌, ℕ, ◌==◌, if◌then◌else◌, Bool, true, false, List, [], map, Option, Some, None}
+use Rattle.std.specs.BTreeSet.{BTreeSet}
+use Rattle.std.specs.List.{AllByRecursion}
 use Rattle.sheet_columns.specs.ItemOrder.{kind_rank, object_of, column_of}
 use Rattle.sheet_columns.specs.declared.item.Item.{Item}
 use Rattle.sheet_columns.specs.declared.item.Item.TheVariants.{Live, Up, Extent, Stored}
@@ -21,3 +23,17 @@ item_of k =
 
 abbrev pub IsKey : Key → Type 0
 IsKey k = key_of (item_of k) ≡ k
+
+-- whether items are noted
+abbrev pub keys_noted : Option (BTreeSet Key) → Bool
+keys_noted None = false
+keys_noted (Some keys) = true
+
+-- the items that are noted
+abbrev pub items_noted : Option (BTreeSet Key) → List Item
+items_noted None = []
+items_noted (Some keys) = map item_of keys.keys
+
+abbrev pub AreKeys : Option (BTreeSet Key) → Type 0
+AreKeys None = Unit {0}
+AreKeys (Some keys) = AllByRecursion IsKey keys.keys

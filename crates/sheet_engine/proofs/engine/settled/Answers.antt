@@ -2,8 +2,8 @@ use Rattle.std.proofs.Common.{◌∙◌}
 use Rattle.sheet_engine.proofs.Results.{result_is, if_ok}
 use Rattle.sheet_engine.proofs.engine.settled.Goals as goal
 
-pub returns : goal.returns
-returns g c =
+pub returns-clause-value : goal.returns-clause-value
+returns-clause-value g c =
     if_ok c.result_of.result
     (λ v e.
     e

@@ -5,4 +5,4 @@ use Rattle.sheet_engine.proofs.engine.Engine.delete.Goals as goal
 pub delete-requires-clause-kept : goal.delete-requires-clause-kept
 delete-requires-clause-kept c =
     let same : c.columns.result.now ≡ c.self.inside.book.value.columns = search rules in
-    subst (λ n. IsStored n c.self.inside.state) (sym same) c.self.invariant.kept
+    subst (λ n. IsStored n c.self.inside.state) (sym same) c.self.invariant.served.kept
