@@ -1,15 +1,13 @@
 -- What the commands come to, from what their calls tell.
 use Rattle.std.proofs.Common.{◌≡◌, ℕ, inl, inr, subst, sym}
 use Rattle.std.specs.Prelude.{◌⊎◌}
-use Rattle.sheet_outside.specs.Told.{Gains, WhereTold}
-use Rattle.sheet_lines.specs.Told.{GainsFront}
+use Rattle.sheet_outside.specs.Told.{WhereTold}
+use Rattle.objsheet_status.specs.Outside.{Outside, Failed}
 use Rattle.objsheet_check.specs.Checking.{IsChecked, IsCheckedInput, IsUnfit, HasNoBook, Takes, IsCutOff}
 use Rattle.objsheet.specs.Trying.{IsDone, IsRead, IsRefused, HasCauseOfRefusal, IsStopped, IsBrokenOff}
-use Rattle.objsheet.specs.Commands.{usage}
-use Rattle.objsheet.specs.Ran.{Outside, ends, SourceFailed, SinkFailed, Checks, Tries, Misuses}
+use Rattle.objsheet.specs.Ran.{ends, Checks, Tries}
 use Rattle.objsheet.specs.Ran.Checks.{has_book, has_none, is_unread, is_cut_off, has_no_room}
 use Rattle.objsheet.specs.Ran.Tries.{is_done, is_refused, is_stopped, is_broken_off, is_starved}
-use Rattle.objsheet.specs.Ran.Misuses.{is_told, is_told_in_part}
 
 -- the statuses of a command
 abbrev Ended : ℕ → Type 0
@@ -20,10 +18,10 @@ at : (P : ℕ → Type 0) (status n : ℕ) → status ≡ n → P n → P status
 at P status n same p = subst P (sym same) p
 
 pub checked : (a b : Outside) (status : ℕ) → Ended status →
-    (status ≡ 0 → WhereTold IsChecked (ends a) (ends b)) → (status ≡ 0 → WhereTold IsCheckedInput a.left b.left) →
-    (status ≡ 1 → WhereTold IsUnfit (ends a) (ends b)) → (status ≡ 1 → WhereTold (λ input left. HasNoBook input) a.left b.left) →
-    (status ≡ 3 → SourceFailed a b) → (status ≡ 3 → WhereTold Takes a.left b.left) → ((status ≡ 3) ⊎ (status ≡ 7) → b.written ≡ a.written) →
-    (status ≡ 4 → SinkFailed a b) → (status ≡ 4 → WhereTold IsCutOff (ends a) (ends b)) → Checks a b status
+    (status ≡ 0 → WhereTold IsChecked (ends a) (ends b)) → (status ≡ 0 → WhereTold IsCheckedInput a.input.told b.input.told) →
+    (status ≡ 1 → WhereTold IsUnfit (ends a) (ends b)) → (status ≡ 1 → WhereTold (λ input left. HasNoBook input) a.input.told b.input.told) →
+    (status ≡ 3 → Failed a.input b.input) → (status ≡ 3 → WhereTold Takes a.input.told b.input.told) → ((status ≡ 3) ⊎ (status ≡ 7) → b.output.told ≡ a.output.told) →
+    (status ≡ 4 → Failed a.output b.output) → (status ≡ 4 → WhereTold IsCutOff (ends a) (ends b)) → Checks a b status
 checked a b s (inl is) good input unfit none source takes unsaid sink cut = at (Checks a b) s 0 is (has_book (good is) (input is))
 checked a b s (inr (inl is)) good input unfit none source takes unsaid sink cut = at (Checks a b) s 1 is (has_none (unfit is) (none is))
 checked a b s (inr (inr (inl is))) good input unfit none source takes unsaid sink cut =
@@ -33,10 +31,10 @@ checked a b s (inr (inr (inr (inl is)))) good input unfit none source takes unsa
 checked a b s (inr (inr (inr (inr is)))) good input unfit none source takes unsaid sink cut = at (Checks a b) s 7 is (has_no_room (unsaid (inr is)))
 
 pub tried : (a b : Outside) (status : ℕ) → Ended status →
-    (status ≡ 0 → WhereTold IsDone (ends a) (ends b)) → (status ≡ 0 → WhereTold IsRead a.left b.left) →
-    (status ≡ 1 → WhereTold IsRefused (ends a) (ends b)) → (status ≡ 1 → WhereTold HasCauseOfRefusal a.left b.left) →
-    (status ≡ 3 → SourceFailed a b) → (status ≡ 3 → WhereTold IsStopped (ends a) (ends b)) →
-    (status ≡ 4 → SinkFailed a b) → (status ≡ 4 → WhereTold IsBrokenOff (ends a) (ends b)) → (status ≡ 7 → WhereTold IsBrokenOff (ends a) (ends b)) →
+    (status ≡ 0 → WhereTold IsDone (ends a) (ends b)) → (status ≡ 0 → WhereTold IsRead a.input.told b.input.told) →
+    (status ≡ 1 → WhereTold IsRefused (ends a) (ends b)) → (status ≡ 1 → WhereTold HasCauseOfRefusal a.input.told b.input.told) →
+    (status ≡ 3 → Failed a.input b.input) → (status ≡ 3 → WhereTold IsStopped (ends a) (ends b)) →
+    (status ≡ 4 → Failed a.output b.output) → (status ≡ 4 → WhereTold IsBrokenOff (ends a) (ends b)) → (status ≡ 7 → WhereTold IsBrokenOff (ends a) (ends b)) →
     Tries a b status
 tried a b s (inl is) done read refused cause source stopped sink broken starved = at (Tries a b) s 0 is (is_done (done is) (read is))
 tried a b s (inr (inl is)) done read refused cause source stopped sink broken starved = at (Tries a b) s 1 is (is_refused (refused is) (cause is))
@@ -46,8 +44,3 @@ tried a b s (inr (inr (inr (inl is)))) done read refused cause source stopped si
     at (Tries a b) s 4 is (is_broken_off (sink is) (broken is))
 tried a b s (inr (inr (inr (inr is)))) done read refused cause source stopped sink broken starved =
     at (Tries a b) s 7 is (is_starved (starved is))
-
-pub misused : (a b : Outside) (status : ℕ) → (status ≡ 2) ⊎ (status ≡ 4) → b.left ≡ a.left → (status ≡ 2 → Gains a.written b.written usage) →
-    (status ≡ 4 → WhereTold (GainsFront usage) a.written b.written) → (status ≡ 4 → SinkFailed a b) → Misuses a b status
-misused a b s (inl is) same said cut sink = at (Misuses a b) s 2 is (is_told (said is) same)
-misused a b s (inr is) same said cut sink = at (Misuses a b) s 4 is (is_told_in_part (sink is) (cut is) same)

@@ -9,8 +9,10 @@ mod stop;
 mod trying;
 
 use crate::run::run;
-use objsheet_status::{OUT_OF_MEMORY, SINK_FAILED, SOURCE_FAILED};
+use objsheet_status::{DISK_FAILED, OUT_OF_MEMORY, SINK_FAILED, SOURCE_FAILED};
 use sheet_outside::{StdSink, StdSource};
+use sheet_outside_disks::FileDisk;
+use std::io::ErrorKind;
 use std::process::ExitCode;
 use std::{env, io};
 
@@ -23,14 +25,28 @@ fn main(rt: HostRuntime) -> ExitCode {
     ExitCode::from(status)
 }
 
-// Runs the program over standard input and standard output.
+// Runs the program over standard input, standard output and the files of the system.
 fn run_outside(rt: &HostRuntime) -> u8 {
-    let Ok(words) = words(rt) else {
-        return OUT_OF_MEMORY;
+    let words = match words(rt) {
+        Ok(words) => words,
+        Err(e) => {
+            if e.kind() != ErrorKind::InvalidData {
+                return OUT_OF_MEMORY;
+            }
+            // Words that aren't UTF-8 are those of no command, as none are.
+            Vec::new(rt.alloc())
+        }
     };
     let mut input = StdSource::new(rt.reader());
     let mut output = StdSink::new(io::writer(rt));
-    run(rt.alloc(), words.as_slice(), &mut input, &mut output)
+    let mut disk = FileDisk::new(rt);
+    run(
+        rt.alloc(),
+        words.as_slice(),
+        &mut input,
+        &mut output,
+        &mut disk,
+    )
 }
 
 // The words after the program's name.
@@ -47,6 +63,7 @@ fn explanation(status: u8) -> Option<&'static str> {
     match status {
         SOURCE_FAILED => Some("objsheet: the input could not be read"),
         SINK_FAILED => Some("objsheet: the output could not be written"),
+        DISK_FAILED => Some("objsheet: the disk failed"),
         OUT_OF_MEMORY => Some("objsheet: there was no memory"),
         _ => None,
     }

@@ -102,8 +102,8 @@ fn check_input<S: Source>(alloc: Global, input: &mut S) -> Result<Verdict, ReadF
     Ok(verdict)
 }
 
-// Finds what a text holds.
-fn check_text(alloc: Global, text: &[u8]) -> Result<Verdict, NoMemory>
+/// Finds what a text holds.
+pub(crate) fn check_text(alloc: Global, text: &[u8]) -> Result<Verdict, NoMemory>
     ensures { IfOk result (FindsInText text.now) }
 {
     match read_definition(alloc, text) {
@@ -135,8 +135,8 @@ fn check_definition(alloc: Global, definition: &Definition) -> Result<Verdict, N
     }
 }
 
-// All of the input; or, where it is longer than a definition may be, as much of it as shows that.
-fn read_text<S: Source>(alloc: Global, input: &mut S) -> Result<Vec<u8>, ReadFailure>
+/// All of the input; or, where it is longer than a definition may be, as much of it as shows that.
+pub(crate) fn read_text<S: Source>(alloc: Global, input: &mut S) -> Result<Vec<u8>, ReadFailure>
     ensures read { IfOk result (λ text. WhereTold (ReadsText text.items) (S.left input.old) (S.left input.new)) }
     ensures stopped { OnErr result (WhereTold Takes (S.left input.old) (S.left input.new)) }
     ensures source { IsErrOf result ReadFailure.Source → Rose (S.faults input.old) (S.faults input.new) }

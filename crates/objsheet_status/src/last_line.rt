@@ -3,6 +3,7 @@ ghost use Rattle.std.specs.Prelude.{◌≡◌, ◌≢◌, ◌⊎◌, ◌≤◌};
 ghost use Rattle.sheet_outside.specs.Causes.{Rose};
 ghost use Rattle.sheet_outside.specs.Told.{Gains, WhereTold};
 ghost use Rattle.sheet_lines.specs.Told.{GainsFront};
+ghost use Rattle.objsheet_status.specs.Outside.{Says, seen};
 
 use crate::status::SINK_FAILED;
 use sheet_lines::write_all;
@@ -16,6 +17,8 @@ pub fn write_last_line<K: Sink>(output: &mut K, line: &[u8], status: u8) -> u8
     ensures broken { result ≡ 4 → WhereTold (GainsFront line.now) (K.written output.old) (K.written output.new) }
     ensures sink { result ≡ 4 → Rose (K.faults output.old) (K.faults output.new) }
     ensures later_sink { K.faults output.old ≤ K.faults output.new }
+    // The same in one word.
+    ensures says { Says line.now status result (seen (K.written output.old) (K.faults output.old)) (seen (K.written output.new) (K.faults output.new)) }
 {
     match write_all(output, line) {
         Ok(()) => status,

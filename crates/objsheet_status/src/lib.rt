@@ -5,4 +5,4 @@ mod last_line;
 mod status;
 
 pub use last_line::write_last_line;
-pub use status::{DONE, OUT_OF_MEMORY, REFUSED, SINK_FAILED, SOURCE_FAILED, USAGE};
+pub use status::{DISK_FAILED, DONE, OUT_OF_MEMORY, REFUSED, SINK_FAILED, SOURCE_FAILED, USAGE};
