@@ -1,7 +1,9 @@
-//! Feeds a connection of equal requests, whose time can be measured: `LENGTH SIZE COUNT TIMES` makes COUNT
-//! requests with bodies of LENGTH bytes, and feeds them TIMES times, in pieces of SIZE bytes. Prints how many requests came of them,
-//! and how many bytes of heads and bodies they are.
+//! Feeds a connection of equal requests, whose time can be measured: `LENGTH SIZE COUNT TIMES FIELDS` makes COUNT
+//! requests with bodies of LENGTH bytes and FIELDS more fields of 100 bytes, and feeds them TIMES times, in pieces of SIZE bytes. Prints
+//! how many requests came of them, and how many bytes of heads and bodies they are.
 #![tactic(auto)]
+
+ghost use Rattle.std.specs.Prelude.{◌<◌};
 
 use sheet_http::{Feed, Step};
 use sheet_values::NoMemory;
@@ -19,9 +21,11 @@ fn main(rt: HostRuntime) -> Result<(), Fail> {
     let length = number(words.next()).min(65_536);
     let size = number(words.next()).clamp(1, 65_536);
     let count = number(words.next());
-    let stream = stream(alloc, length, count)?;
+    let times = number(words.next());
+    let fields = number(words.next()).min(59);
+    let stream = stream(alloc, length, fields, count)?;
     let mut all = 0usize;
-    for _ in 0..number(words.next()) {
+    for _ in 0..times {
         all = all.saturating_add(steps(alloc, stream.as_slice(), size)?);
     }
     println!(rt; "{all} {}", stream.len())?;
@@ -37,12 +41,16 @@ fn number(word: Option<String>) -> usize {
 }
 
 // The bytes of the connection.
-fn stream(alloc: Global, length: usize, count: usize) -> Result<Vec<u8>, NoMemory> {
-    let end = format!(in alloc; "{length}\r\n\r\n")?;
+fn stream(
+    alloc: Global,
+    length: usize,
+    fields: usize,
+    count: usize,
+) -> Result<Vec<u8>, NoMemory> {
+    let head = head(alloc, length, fields)?;
     let mut bytes = Vec::new(alloc);
     for _ in 0..count {
-        bytes.extend_from_slice(HEAD)?;
-        bytes.extend_from_slice(end.as_bytes())?;
+        bytes.extend_from_slice(head.as_slice())?;
         for _ in 0..length {
             bytes.push(b'a')?;
         }
@@ -50,19 +58,67 @@ fn stream(alloc: Global, length: usize, count: usize) -> Result<Vec<u8>, NoMemor
     Ok(bytes)
 }
 
+// The bytes of each head.
+fn head(alloc: Global, length: usize, fields: usize) -> Result<Vec<u8>, NoMemory> {
+    let line = format!(in alloc; "{length}\r\n")?;
+    let mut bytes = Vec::new(alloc);
+    bytes.extend_from_slice(HEAD)?;
+    bytes.extend_from_slice(line.as_bytes())?;
+    for _ in 0..fields {
+        bytes.extend_from_slice(b"Cookie: ")?;
+        for _ in 0..90 {
+            bytes.push(b'c')?;
+        }
+        bytes.extend_from_slice(b"\r\n")?;
+    }
+    bytes.extend_from_slice(b"\r\n")?;
+    Ok(bytes)
+}
+
 // How many requests come of them in pieces of that size.
-fn steps(alloc: Global, bytes: &[u8], size: usize) -> Result<usize, NoMemory> {
+fn steps(alloc: Global, bytes: &[u8], size: usize) -> Result<usize, NoMemory>
+    requires { 0 < size }
+{
     let mut feed = Feed::new(alloc)?;
+    if size == 1 {
+        single_steps(&mut feed, bytes)
+    } else {
+        several_steps(&mut feed, bytes, size)
+    }
+}
+
+// The same in single bytes, whose size the compiler then knows. There is room for each.
+fn single_steps(feed: &mut Feed, bytes: &[u8]) -> Result<usize, NoMemory> {
     let mut count = 0usize;
-    let mut rest = bytes;
-    for _ in 0..bytes.len() {
-        let (piece, _) = rest.split_at(size.min(rest.len()));
-        let taken = feed.feed(piece).min(rest.len());
-        let (_, behind) = rest.split_at(taken);
+    for piece in bytes.chunks(1) {
+        feed.feed(piece);
+        if feed.awaited() == 0 {
+            count = count.saturating_add(take_steps(feed)?);
+        }
+    }
+    Ok(count)
+}
+
+// The same in pieces of several bytes.
+fn several_steps(feed: &mut Feed, bytes: &[u8], size: usize) -> Result<usize, NoMemory>
+    requires { 0 < size }
+{
+    let mut count = 0usize;
+    for piece in bytes.chunks(size) {
+        count = count.saturating_add(piece_steps(feed, piece)?);
+    }
+    Ok(count)
+}
+
+// The same in one piece, which is fed in parts where there is no room for all of it.
+fn piece_steps(feed: &mut Feed, piece: &[u8]) -> Result<usize, NoMemory> {
+    let mut count = 0usize;
+    let mut rest = piece;
+    for _ in 0..piece.len() {
+        let (_, behind) = rest.split_at(feed.feed(rest));
         rest = behind;
-        if let Step::Request { .. } = feed.next()? {
-            feed.done();
-            count = count.saturating_add(take_steps(&mut feed)?);
+        if feed.awaited() == 0 {
+            count = count.saturating_add(take_steps(feed)?);
         }
         if rest.is_empty() {
             break;
@@ -71,18 +127,16 @@ fn steps(alloc: Global, bytes: &[u8], size: usize) -> Result<usize, NoMemory> {
     Ok(count)
 }
 
-// How many requests there are, where one was just taken: that one, and those that the bytes behind it begin with.
+// Takes the requests that are there. How many these were.
 #[inline(never)]
 fn take_steps(feed: &mut Feed) -> Result<usize, NoMemory> {
-    let mut count = 1usize;
+    let mut count = 0usize;
     for _ in 0..100_000 {
-        match feed.next()? {
-            Step::Request { .. } => {
-                count = count.saturating_add(1);
-                feed.done();
-            }
-            Step::More | Step::Refused(_, _) => break,
-        }
+        let Step::Request { .. } = feed.next()? else {
+            break;
+        };
+        count = count.saturating_add(1);
+        feed.done();
     }
     Ok(count)
 }

@@ -1,6 +1,6 @@
 -- What a feed tells of the bytes that it holds.
 use Rattle.std.proofs.Common.{◌≡◌, ◌≢◌, ℕ, zero, suc, refl, ◌+◌, ◌-◌, ◌<◌, ◌≤◌, Bool, true, false, List, [], ◌∷◌, ◌++◌, length, take, drop, map, sym, ap}
-use Rattle.std.proofs.Common.{◌∙◌, subst, arith, append_assoc, inl, inr, Result, Ok, Err, length-append, get_or}
+use Rattle.std.proofs.Common.{◌∙◌, subst, arith, append_assoc, append-nil, inl, inr, Result, Ok, Err, length-append, get_or}
 use Rattle.std.specs.Prelude.{slice_range, bytes_eq, codes, IsUtf8, ◌&&◌, ◌==◌, nat_lt, nat_le, if◌then◌else◌}
 use Rattle.std.specs.List.{position_or_len}
 use Rattle.std.specs.Str.{is_utf8}
@@ -8,7 +8,7 @@ use Rattle.std.proofs.lemmas.Str.{IsUtf8-from_is_utf8}
 use Rattle.std.proofs.lemmas.List.{take-append-drop, length-take, length-drop, take-append-le, take-take, drop-take, drop-drop, drop-append-le}
 use Rattle.std.proofs.lemmas.List.Folds.{drop_split}
 use Rattle.std.proofs.lemmas.Bool.{cases_lt, true≢false}
-use Rattle.std.proofs.Math.Seq.{drop-append_seam}
+use Rattle.std.proofs.Math.Seq.{drop-append_seam, get_or-append_seam, take-length}
 use Rattle.httparse.specs.Grammar.{RequestHead, print_request, HasNoRequest}
 use Rattle.httparse.specs.Spans.{IsRequestAt, span_bytes, header_bytes}
 use Rattle.httparse.specs.declared.spans.HeaderSpan.{HeaderSpan}
@@ -27,13 +27,15 @@ use Rattle.sheet_http.specs.Heads.{Asked, judged, judged_head, asked_in, shifted
 use Rattle.sheet_http.specs.Heads.{IsNamePlace, FindsRoute, Judges}
 use Rattle.sheet_http.specs.Fields.{NameAndValue}
 use Rattle.sheet_http.specs.Paths.{routed}
-use Rattle.sheet_http.specs.Knowing.{IsDemanded, Knows, Settles}
-use Rattle.sheet_http.specs.Waiting.{IsShort, bytes_wanted}
+use Rattle.sheet_http.specs.Knowing.{IsDemanded, Knows, KnowsUpTo}
+use Rattle.sheet_http.specs.Waiting.{bytes_wanted}
 use Rattle.sheet_http.specs.Stream.{longest_head, Heads, IsHopeless, AsksFirst, RefusesFirst, head as by_head, hopeless as by_line, long as by_length}
 use Rattle.sheet_http.specs.Stream.{HasNoStep}
 use Rattle.std.specs.Prelude.{Option, Some, None}
 use Rattle.sheet_http.specs.Searching.{IsOpen}
 use Rattle.sheet_http.specs.Steps.{AreWithin, room}
+use Rattle.sheet_http.specs.Lacking.{Lacks}
+use Rattle.sheet_http.specs.Lacking as lacking
 use Rattle.sheet_http.proofs.SearchLemmas.{head_ends, open_more, open_all}
 use Rattle.sheet_http.proofs.StreamLemmas.{heads-append, refuses-append, hopeless_cut, hopeless_within, one_head, not_hopeless, not_long, ok_or_err}
 
@@ -225,25 +227,35 @@ ok_of : Asked → Result Asked HttpRefusal → Asked
 ok_of d (Ok k) = k
 ok_of d (Err e) = d
 
--- its body isn't there yet
-pub more_step : (b : List ℕ) (d : Demand) (n : ℕ) → IsDemanded b d n → length b - n < d.length → HasNoStep b × (length b < room)
+-- a head asks for one thing
+pub asks_one : (h : RequestHead) (a c : Asked) → judged_head h ≡ Ok a → judged_head h ≡ Ok c → a ≡ c
 unfolding ok_of
+asks_one h a c asks wants = ap (ok_of a) (sym asks ∙ wants)
+
+-- who asks for something is not refused
+pub asked_stays : (b : List ℕ) (h : RequestHead) (behind : List ℕ) (a : Asked) → Heads b h behind → judged_head h ≡ Ok a
+    → (e : HttpRefusal) (c : Bool) → RefusesFirst b e c → ⊥
+asked_stays b h behind a x asked e _ (by_head k after _ y bad) =
+    ok_or_err a e (judged_head h) asked (ap judged_head (one_head b h k behind after x y).0 ∙ bad)
+asked_stays b h behind a x asked _ _ (by_line m y least) = not_hopeless b m h behind x y
+asked_stays b h behind a x asked _ _ (by_length enough no_head nor) = not_long b h behind x no_head
+
+-- its body isn't there yet
+pub none_yet : (b : List ℕ) (h : RequestHead) (behind : List ℕ) (a : Asked) → Heads b h behind → judged_head h ≡ Ok a → length behind < a.length
+    → HasNoStep b
+none_yet b h behind a x asked less = record {
+  none_asked = λ route body close rest y.
+      let same = one_head b h y.head behind (body ++ rest) x y.heads in
+      let size : a.length ≡ length body = ap (λ (k : Asked). k.length) (asks_one h a _ asked (ap judged_head same.0 ∙ y.asked)) in
+      omega (arith, less, size, ap length same.1, length-append body rest);
+  none_refused = asked_stays b h behind a x asked;
+}
+
+pub more_step : (b : List ℕ) (d : Demand) (n : ℕ) → IsDemanded b d n → length b - n < d.length → HasNoStep b × (length b < room)
 more_step b d n x less = (
-  record {
-    none_asked = λ route body close rest y.
-        let same = one_head b x.head y.head (drop n b) (body ++ rest) x.heads y.heads in
-        let size : d.length ≡ length body = ap (λ (k : Asked). k.length) (ap (ok_of (asked_in b d)) (sym x.asked ∙ ap judged_head same.0 ∙ y.asked)) in
-        omega (arith, less, size, ap length same.1, length-append body rest, length-drop n b, x.within);
-    none_refused = none;
-  },
+  none_yet b x.head (drop n b) (asked_in b d) x.heads x.asked (omega (arith, less, length-drop n b)),
   omega (arith, less, x.few, x.short, x.within),
 )
-  where
-    none : (e : HttpRefusal) (c : Bool) → RefusesFirst b e c → ⊥
-    none e _ (by_head k behind _ y bad) =
-        ok_or_err (asked_in b d) e (judged_head x.head) x.asked (ap judged_head (one_head b x.head k (drop n b) behind x.heads y).0 ∙ bad)
-    none _ _ (by_line m y least) = not_hopeless b m x.head (drop n b) x.heads y
-    none _ _ (by_length enough no_head nor) = not_long b x.head (drop n b) x.heads no_head
 
 -- its body is there
 pub whole_step : (b : List ℕ) (d : Demand) (n : ℕ) (route : Route) → IsDemanded b d n → n + d.length ≤ length b
@@ -268,6 +280,10 @@ open_start b = record {
   hope = λ m y. omega (arith, y.place);
 }
 
+-- no byte came
+pub knows_start : (b : List ℕ) → b ≡ [] → Knows b known.Open
+knows_start b none = subst (λ t. Knows t known.Open) (sym none) (open_start [], omega arith)
+
 -- more bytes came
 pub open-append : (b more : List ℕ) (n : ℕ) → IsOpen b n → IsOpen (b ++ more) n
 open-append b more n x = record {
@@ -285,8 +301,8 @@ within_more None n m more within = tt
 within_more (Some (from, until)) n m more within = (within.0, omega (arith, within.1, more))
 
 -- what is known stays known where more bytes come
-pub knows-append : (b more : List ℕ) (k : Known) → Knows b k → Knows (b ++ more) k
-knows-append b more (known.Open n) x = open-append b more n x
+pub knows-append : (b more : List ℕ) (k : Known) → Knows b k → KnowsUpTo (b ++ more) (length b) k
+knows-append b more known.Open x = open-append b more (length b) x.0
 knows-append b more (known.Refused e c) x = refuses-append b more e c x
 knows-append b more (known.Asked d n) x =
     let same : slice_range (b ++ more) d.name.start d.name.end ≡ span_bytes b d.name =
@@ -305,29 +321,50 @@ knows-append b more (known.Asked d n) x =
       few = x.few;
     }
 
-pub settles_knows : (b : List ℕ) (k : Known) → Settles b k → Knows b k
-settles_knows b (known.Open n) x = x.0
-settles_knows b (known.Refused e c) x = x
-settles_knows b (known.Asked d n) x = x
+-- one byte came, which is no line feed
+pub line_goes_on : (b : List ℕ) (x : ℕ) → Knows b known.Open → length b + 1 < longest_head → x ≢ 10 → Knows (b ++ x ∷ []) known.Open
+line_goes_on b x old short other =
+    let end : length b + 1 ≡ length (b ++ x ∷ []) = omega (arith, length-append b (x ∷ [])) in
+    let inside : length b < length (b ++ x ∷ []) = omega (arith, end) in
+    let here : x ≡ get_or (b ++ x ∷ []) (length b) 0 = sym (get_or-append_seam b x [] 0) in
+    let more = open_more (b ++ x ∷ []) (length b) x (open-append b (x ∷ []) (length b) old.0) inside (omega (arith, short)) here other in
+    (subst (IsOpen (b ++ x ∷ [])) end more, omega (arith, end, short))
+
+-- all lines were judged, and none is without hope
+pub open_known : (b : List ℕ) → length b < longest_head → HasNoRequest b → ((m : ℕ) → IsHopeless b m → length b < m) → Knows b known.Open
+open_known b short headless hope = (
+  record { within = omega arith; short = omega (arith, short); none = subst HasNoRequest (sym (take-length b)) headless; hope = hope },
+  short,
+)
+
+pub open_none : (b : List ℕ) → Knows b known.Open → HasNoStep b × (length b < room)
+open_none b x = open_step b x.1 (open_all b (length b) x.0 refl) x.0.hope
 
 -- ---- what a feed waits for
 
--- fewer bytes are there than are wanted
-pub waits : (b : List ℕ) (k : Known) (n : ℕ) → Knows b k → n ≡ bytes_wanted k → length b < n → HasNoStep b × (length b < room)
-waits b (known.Open _) n x all less = absurd (omega (arith, all, less))
-waits b (known.Refused _ _) n x all less = absurd (omega (arith, all, less))
-waits b (known.Asked d m) n x all less = more_step b d m x (omega (arith, all, less, x.within))
+-- there is room for what is wanted
+pub wanted_fits : (b : List ℕ) (k : Known) → Knows b k → bytes_wanted k (length b) ≤ room
+wanted_fits b known.Open x = omega (arith, x.1)
+wanted_fits b (known.Refused _ _) x = omega arith
+wanted_fits b (known.Asked d m) x = omega (arith, x.short, x.few)
 
-pub settles_short : (b : List ℕ) (k : Known) → Settles b k → IsShort k
-settles_short b (known.Open n) x = tt
-settles_short b (known.Refused e c) x = tt
-settles_short b (known.Asked d n) x = (x.short, x.few)
+-- where less than what is lacking comes, nothing is to be judged
+pub knows_short : (b more : List ℕ) (k : Known) → Knows b k → length more < bytes_wanted k (length b) - length b
+    → Knows (b ++ more) k × (bytes_wanted k (length b) ≡ bytes_wanted k (length (b ++ more)))
+knows_short b [] k x less = subst (λ t. Knows t k × (bytes_wanted k (length b) ≡ bytes_wanted k (length t))) (sym (append-nil b)) (x, refl)
+knows_short b (y ∷ ys) known.Open x less = absurd (omega (arith, less))
+knows_short b (y ∷ ys) (known.Refused _ _) x less = absurd (omega (arith, less))
+knows_short b (y ∷ ys) (known.Asked d m) x less = (knows-append b (y ∷ ys) (known.Asked d m) x, refl)
 
--- one byte came, which is no line feed
-pub one_more : (b : List ℕ) (p : ℕ) → IsOpen b p → length b ≡ p + 1 → length b < longest_head → get_or b p 0 ≢ 10
-    → IsOpen b (length b) × HasNoStep b × (length b < room)
-one_more b p old one short other =
-    let more = open_more b p (get_or b p 0) old (omega (arith, one)) (omega (arith, one, short)) refl other in
-    let all : IsOpen b (length b) = subst (IsOpen b) (sym one) more in
-    let none = open_step b short (open_all b (length b) all refl) all.hope in
-    (all, none.0, none.1)
+-- what is lacking
+pub lacks : (b : List ℕ) (k : Known) → Knows b k → Lacks b (bytes_wanted k (length b) - length b)
+lacks b known.Open x =
+    let one : 1 ≡ length b + 1 - length b = omega arith in
+    let headless = open_all b (length b) x.0 refl in
+    subst (Lacks b) one (lacking.head (open_none b x).0 (λ h behind y. headless h behind y.reads))
+lacks b (known.Refused e c) x =
+    let none : 0 ≡ 0 - length b = omega arith in
+    subst (Lacks b) none (lacking.refused e c x)
+lacks b (known.Asked d n) x =
+    let left : d.length - length (drop n b) ≡ n + d.length - length b = omega (arith, x.within, length-drop n b) in
+    subst (Lacks b) left (lacking.body x.head (drop n b) (asked_in b d) x.heads x.asked)

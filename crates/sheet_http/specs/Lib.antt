@@ -7,4 +7,6 @@ pub mod Steps
 pub mod Searching
 pub mod Knowing
 pub mod Waiting
+pub mod Lacking
 pub mod Responses
+pub mod Fronts

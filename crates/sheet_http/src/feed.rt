@@ -1,13 +1,16 @@
 // The bytes of a connection, and the steps that they hold.
-ghost use Rattle.std.specs.Prelude.{◌≡◌, ◌≤◌, ◌+◌, ◌-◌, ◌++◌, [], List, ℕ, length, take, drop, min, slice_range, IfOk, IfSome, OnErr, Some, None, true, ◌<◌};
+ghost use Rattle.std.specs.Prelude.{◌≡◌, ◌≤◌, ◌+◌, ◌-◌, ◌++◌, [], List, ℕ, length, take, drop, min, slice_range, IfOk, OnErr, Some, None, true, ◌<◌};
 ghost use Rattle.httparse.specs.Grammar.{RequestHead};
 ghost use Rattle.httparse.specs.Spans.{IsRequestAt, IsRequestWithin};
+ghost use Rattle.sheet_http.specs.Fronts.{IsKnownFront};
 ghost use Rattle.sheet_http.specs.Heads.{route_from, is_route_name, has_name, shifted};
-ghost use Rattle.sheet_http.specs.Knowing.{IsDemanded, Knows, Settles};
+ghost use Rattle.sheet_http.specs.Knowing.{IsDemanded, Knows, KnowsUpTo};
+ghost use Rattle.sheet_http.specs.Lacking.{Lacks};
 ghost use Rattle.sheet_http.specs.Searching.{IsOpen};
-ghost use Rattle.sheet_http.specs.Waiting.{IsShort, bytes_wanted};
-ghost use Rattle.sheet_http.specs.Stream.{HasNoStep};
+ghost use Rattle.sheet_http.specs.Waiting.{bytes_wanted};
 ghost use Rattle.sheet_http.specs.Steps.{Gives, Tells, places_of, room};
+ghost use Rattle.sheet_http.specs.Stream.{longest_head};
+ghost use Rattle.sheet_http.specs.declared.feed.Known.TheVariants.{Open};
 
 use crate::buffer::Buffer;
 use crate::head::{Demand, judge_head};
@@ -40,11 +43,11 @@ pub enum Step {
     Refused(HttpRefusal, bool),
 }
 
-/// What is known of the bytes that are held.
+/// What is known of the bytes that are held, all of whose lines were judged.
 #[derive(Clone, Copy, Drop)]
 pub enum Known {
-    /// No head yet. The lines up to this place were judged.
-    Open(usize),
+    /// No head yet.
+    Open,
     /// A whole head of so many bytes, and what it asks for.
     Asked(Demand, usize),
     /// What is refused; whether a whole head was read and its method is HEAD.
@@ -56,7 +59,8 @@ pub enum Known {
 pub struct Feed {
     held: Buffer,
     known: Known,
-    wanted: usize,
+    // Up to where the bytes are a start line and whole fields, or 0.
+    front: usize,
     fields: Vec<HeaderSpan>,
     routes: Routes,
     told: Option<(usize, usize)>,
@@ -65,15 +69,17 @@ pub struct Feed {
 
 impl Model for Feed {
     ghost use Rattle.std.specs.Prelude.{◌≡◌, length};
+    ghost use Rattle.sheet_http.specs.Fronts.{IsKnownFront};
     ghost use Rattle.sheet_http.specs.Knowing.{Knows};
     ghost use Rattle.sheet_http.specs.Waiting.{bytes_wanted};
     ghost use Rattle.sheet_http.specs.Steps.{Held, AreWithin};
 
     ghost Value = { Held };
 
-    ghost view = { λ f. record { bytes = f.held; told = f.told } };
+    ghost view = { λ f. record { bytes = f.held.bytes; told = f.told } };
 
-    ghost invariant = { λ f. Knows f.held f.known × (f.wanted ≡ bytes_wanted f.known) × (length f.fields.items ≡ 2731) × AreWithin f.told (length f.held) };
+    ghost invariant = { λ f. Knows f.held.bytes f.known × (f.held.wanted ≡ bytes_wanted f.known (length f.held.bytes))
+        × IsKnownFront f.held.bytes f.front × (length f.fields.items ≡ 2731) × AreWithin f.told (length f.held.bytes) };
 }
 
 // What is known of a whole head.
@@ -87,7 +93,7 @@ fn judge(
     requires short { (count ≤ length held.now) × (count ≤ 8192) }
     requires head { (h : RequestHead) × IsRequestAt (take count held.now) fields.now spans.now h }
     requires within { IsRequestWithin (take count held.now) fields.now spans.now }
-    ensures { Settles held.now result }
+    ensures { Knows held.now result }
 {
     let line = &held[..count];
     let (fields, _) = fields.split_at(spans.headers);
@@ -115,44 +121,66 @@ fn placed(demand: Demand, start: usize) -> Demand
 }
 
 // How many bytes there are to be before a step can come.
-fn bytes_wanted(known: &Known) -> usize
-    requires { IsShort known.now }
-    ensures { result ≡ bytes_wanted known.now }
-{
-    match known {
-        Known::Asked(demand, from) => from + demand.length,
-        Known::Open(_) | Known::Refused(_, _) => 0,
-    }
-}
-
-// The end of the bytes, where one byte came since no head was known, and it ends no line.
-#[inline]
-fn line_goes_on(known: &Known, held: &[u8]) -> Option<usize>
+fn bytes_wanted(known: &Known, held: &[u8]) -> usize
     requires { Knows held.now known.now }
-    ensures { IfSome result (λ n. IsOpen held.now n × HasNoStep held.now × (length held.now < room)) }
+    ensures count { result ≡ bytes_wanted known.now (length held.now) }
+    ensures room { result ≤ room }
 {
     match known {
-        Known::Open(place)
-            if held.len() - place == 1 && held.len() < LONGEST_HEAD && held[*place] != b'\n' => {
-            Some(held.len())
-        }
-        _ => None,
+        Known::Open => held.len() + 1,
+        Known::Asked(demand, from) => from + demand.length,
+        Known::Refused(_, _) => 0,
     }
 }
 
-// What is known of the bytes once the lines that aren't judged yet are.
-fn look(known: Known, routes: &Routes, held: &[u8], fields: &mut [HeaderSpan]) -> Known
-    requires knows { Knows held.now known }
+// Whether a byte behind so many is only added where it ends no line: no head is whole, and it makes none too long.
+#[inline]
+fn goes_on(known: &Known, count: usize) -> bool
+    ensures { result ≡ true → (known.now ≡ Open) × (count + 1 < longest_head) }
+{
+    matches!(known, Known::Open) && count < LONGEST_HEAD - 1
+}
+
+// What is known of the bytes once the lines behind a place are judged too.
+fn look(
+    known: Known,
+    routes: &Routes,
+    held: &[u8],
+    judged: usize,
+    front: &mut usize,
+    fields: &mut [HeaderSpan],
+) -> Known
+    requires knows { KnowsUpTo held.now judged known }
+    requires front { IsKnownFront (take judged held.now) front.old }
     requires fields { length fields.old ≡ 2731 }
-    ensures settles { Settles held.now result }
+    ensures knows { Knows held.now result }
+    ensures front { IsKnownFront held.now front.new }
     ensures fields { length fields.new ≡ length fields.old }
 {
-    let Known::Open(place) = known else {
-        return known;
-    };
-    let mut judged = place;
-    match search(held, &mut judged, fields) {
-        Found::Open => Known::Open(judged),
+    match known {
+        Known::Open => judge_lines(routes, held, judged, front, fields),
+        Known::Asked(_, _) | Known::Refused(_, _) => known,
+    }
+}
+
+// The same, where no head was known.
+fn judge_lines(
+    routes: &Routes,
+    held: &[u8],
+    judged: usize,
+    front: &mut usize,
+    fields: &mut [HeaderSpan],
+) -> Known
+    requires open { IsOpen held.now judged }
+    requires front { IsKnownFront (take judged held.now) front.old }
+    requires fields { length fields.old ≡ 2731 }
+    ensures knows { Knows held.now result }
+    ensures front { IsKnownFront held.now front.new }
+    ensures fields { length fields.new ≡ length fields.old }
+{
+    let mut place = judged;
+    match search(held, &mut place, front, fields) {
+        Found::Open => Known::Open,
         Found::TooLong => Known::Refused(HttpRefusal::HeadTooLong, false),
         Found::Hopeless(count) => Known::Refused(HttpRefusal::NotHttp(count), false),
         Found::Whole(spans, count) => judge(routes, held, count, &spans, fields),
@@ -203,11 +231,11 @@ fn request(alloc: Global, demand: &Demand, from: usize, held: &[u8]) -> Result<S
 
 // What the bytes begin with, by what is known of them.
 fn step_of(alloc: Global, known: &Known, held: &[u8]) -> Result<Step, NoMemory>
-    requires { Settles held.now known.now }
+    requires { Knows held.now known.now }
     ensures { IfOk result (Tells held.now) }
 {
     match known {
-        Known::Open(_) => Ok(Step::More),
+        Known::Open => Ok(Step::More),
         Known::Asked(demand, from) => request(alloc, demand, *from, held),
         Known::Refused(refusal, is_head) => Ok(Step::Refused(*refusal, *is_head)),
     }
@@ -238,13 +266,14 @@ impl Feed {
     pub fn new(alloc: Global) -> Result<Feed, NoMemory>
         ensures { IfOk result (λ feed. feed ≡ record { bytes = []; told = None }) }
     {
-        let held = Buffer::new(alloc)?;
+        let mut held = Buffer::new(alloc)?;
+        held.want(1);
         let fields = vec![in alloc; EMPTY_HEADER_SPAN; FIELDS]?;
         let routes = Routes::new(alloc)?;
         Ok(Feed {
             held,
-            known: Known::Open(0),
-            wanted: 0,
+            known: Known::Open,
+            front: 0,
             fields,
             routes,
             told: None,
@@ -259,46 +288,57 @@ impl Feed {
         ensures bytes { self.new.bytes ≡ self.old.bytes ++ take result piece.now }
         ensures told { self.new.told ≡ self.old.told }
     {
-        self.held.push(piece)
+        if piece.len() < self.held.lacking() {
+            self.held.push_short(piece);
+            return piece.len();
+        }
+        match piece {
+            [byte] if *byte != b'\n' && goes_on(&self.known, self.held.len()) => {
+                self.held.push_next(*byte);
+                1
+            }
+            _ => self.feed_on(piece),
+        }
+    }
+
+    // The same, where lines may be to be judged.
+    #[inline(never)]
+    fn feed_on(&mut self, piece: &[u8]) -> usize
+        ensures count { result ≡ min (length piece.now) (room - length self.old.bytes) }
+        ensures bytes { self.new.bytes ≡ self.old.bytes ++ take result piece.now }
+        ensures told { self.new.told ≡ self.old.told }
+    {
+        let judged = self.held.len();
+        let count = self.held.push(piece);
+        self.known = look(
+            self.known,
+            &self.routes,
+            self.held.bytes(),
+            judged,
+            &mut self.front,
+            &mut self.fields,
+        );
+        let wanted = bytes_wanted(&self.known, self.held.bytes());
+        self.held.want(wanted);
+        count
+    }
+
+    /// How many bytes are lacking to a step: `next` says `More` as long as fewer come. There is room for them.
+    #[inline]
+    pub fn awaited(&self) -> usize
+        ensures lacks { Lacks self.now.bytes result }
+        ensures room { length self.now.bytes + result ≤ room }
+    {
+        self.held.lacking()
     }
 
     /// What the bytes that are held begin with: the same until `feed` or `done`.
-    #[inline]
     pub fn next(&mut self) -> Result<Step, NoMemory>
         ensures step { IfOk result (λ step. Gives self.old.bytes self.new.told step) }
         ensures bytes { self.new.bytes ≡ self.old.bytes }
         ensures none { OnErr result (self.new.told ≡ None) }
     {
         forget(&mut self.told);
-        if self.held.len() < self.wanted {
-            return Ok(Step::More);
-        }
-        match self.look_on() {
-            Ok(step) => Ok(step),
-            Err(error) => Err(error),
-        }
-    }
-
-    // The same, where a step can come.
-    #[inline(never)]
-    fn look_on(&mut self) -> Result<Step, NoMemory>
-        requires { self.old.told ≡ None }
-        ensures step { IfOk result (λ step. Gives self.old.bytes self.new.told step) }
-        ensures bytes { self.new.bytes ≡ self.old.bytes }
-        ensures none { OnErr result (self.new.told ≡ None) }
-    {
-        if let Some(end) = line_goes_on(&self.known, self.held.bytes()) {
-            self.known = Known::Open(end);
-            self.wanted = 0;
-            return Ok(Step::More);
-        }
-        self.known = look(
-            self.known,
-            &self.routes,
-            self.held.bytes(),
-            &mut self.fields,
-        );
-        self.wanted = bytes_wanted(&self.known);
         let step = step_of(self.alloc, &self.known, self.held.bytes())?;
         self.told = places_of(&step);
         Ok(step)
@@ -322,8 +362,17 @@ impl Feed {
             unreachable!()
         };
         self.held.pass(until);
-        self.known = Known::Open(0);
-        self.wanted = 0;
         self.told = None;
+        self.front = 0;
+        self.known = look(
+            Known::Open,
+            &self.routes,
+            self.held.bytes(),
+            0,
+            &mut self.front,
+            &mut self.fields,
+        );
+        let wanted = bytes_wanted(&self.known, self.held.bytes());
+        self.held.want(wanted);
     }
 }

@@ -4,6 +4,7 @@
 mod buffer;
 mod feed;
 mod fields;
+mod front;
 mod head;
 mod laws;
 mod line;
@@ -13,6 +14,6 @@ mod routes;
 mod search;
 
 pub use feed::{Feed, Step};
-pub use laws::{passed_steps, steps_stay, stream_is_one};
+pub use laws::{lacking_is_one, passed_steps, steps_stay, stream_is_one};
 pub use refusal::HttpRefusal;
 pub use response::{Head, RefusalBody, print_head, refusal_body, refusal_code};

@@ -3,7 +3,7 @@ use crate::steps::{Cut, steps_of};
 use sheet_values::NoMemory;
 use std::alloc::Global;
 
-/// Whether the bytes come to these steps in pieces of each size, cut at each place where they are few, and where it is wanted
+/// Whether the bytes come to these steps in pieces of each size and of what is lacking, cut at each place where they are few, and where it is wanted
 /// at each pair of places.
 pub fn agrees_in_pieces(
     alloc: Global,
@@ -16,10 +16,10 @@ pub fn agrees_in_pieces(
             return Ok(false);
         }
     }
-    if bytes.len() < 250 {
-        return agrees_in_pairs(alloc, bytes, steps, pairs);
+    if bytes.len() < 250 && !agrees_in_pairs(alloc, bytes, steps, pairs)? {
+        return Ok(false);
     }
-    Ok(true)
+    agrees(alloc, bytes, steps, Cut::Awaited)
 }
 
 // Whether the steps are the same with this cut.

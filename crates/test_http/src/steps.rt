@@ -12,15 +12,18 @@ pub enum Cut {
     Whole,
     /// In pieces of that many bytes.
     Pieces(usize),
+    /// In pieces of as many bytes as are lacking.
+    Awaited,
     /// At two places.
     At(usize, usize),
 }
 
-// Where the piece that begins there ends.
-fn piece_end(cut: Cut, at: usize, all: usize) -> usize {
+// Where the piece that begins there ends, where so many bytes are lacking.
+fn piece_end(cut: Cut, at: usize, all: usize, lacking: usize) -> usize {
     let end = match cut {
         Cut::Whole => all,
         Cut::Pieces(size) => at.saturating_add(size.max(1)),
+        Cut::Awaited => at.saturating_add(lacking),
         Cut::At(first, _) if at < first => first,
         Cut::At(_, second) if at < second => second,
         Cut::At(_, _) => all,
@@ -29,6 +32,7 @@ fn piece_end(cut: Cut, at: usize, all: usize) -> usize {
 }
 
 // What one look at a feed came to.
+#[derive(Clone, Copy, Drop)]
 enum Turn {
     More,
     Again,
@@ -48,7 +52,7 @@ pub fn steps_of(alloc: Global, bytes: &[u8], cut: Cut) -> Result<String, NoMemor
                 if at >= bytes.len() {
                     return Ok(text);
                 }
-                let end = piece_end(cut, at, bytes.len());
+                let end = piece_end(cut, at, bytes.len(), feed.awaited());
                 let piece = bytes.get(at..end).unwrap_or(b"");
                 at = at.saturating_add(feed.feed(piece));
             }
@@ -57,8 +61,18 @@ pub fn steps_of(alloc: Global, bytes: &[u8], cut: Cut) -> Result<String, NoMemor
     Ok(text)
 }
 
-// Takes one step of the feed and tells it.
+// Takes one step of the feed and tells it, and where bytes are told to be lacking and aren't, or the other way round.
 fn take_step(feed: &mut Feed, text: &mut String) -> Result<Turn, NoMemory> {
+    let lacking = feed.awaited() > 0;
+    let turn = take_next(feed, text)?;
+    if lacking != matches!(turn, Turn::More) {
+        text.push_str("WRONG COUNT OF WHAT IS LACKING\n")?;
+    }
+    Ok(turn)
+}
+
+// The same, without what is lacking.
+fn take_next(feed: &mut Feed, text: &mut String) -> Result<Turn, NoMemory> {
     match feed.next()? {
         Step::More => Ok(Turn::More),
         Step::Refused(refusal, is_head) => {
