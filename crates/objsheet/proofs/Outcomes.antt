@@ -22,7 +22,7 @@ use Rattle.sheet_define.specs.declared.read.DefinitionRefusal.TheVariants.{TooLo
 use Rattle.objsheet.specs.declared.opening.Opening.{Opening}
 use Rattle.objsheet.specs.declared.opening.Opening.TheVariants.{Started, Refused}
 use Rattle.objsheet.specs.declared.stop.Stop.{Stop}
-use Rattle.objsheet.specs.declared.stop.Stop.TheVariants.{Source, Sink}
+use Rattle.objsheet.specs.declared.stop.Stop.TheVariants.{TooLong, Source, Sink, NoMemory}
 use Rattle.objsheet.specs.Serving.{OpensText, Opens, IsRefusedLength, stop_of}
 use Rattle.objsheet.specs.Serving.{IsCut, ServesAll, Stops, Breaks, Begins, IsLongerYet}
 use Rattle.objsheet.specs.Trying.{IsDone, IsRead, IsStopped, IsBrokenOff, IsRefused, FullOutput, first_requests, too_long}
@@ -547,6 +547,16 @@ source_stop T read.NoMemory is = cc
 error_at : {T : Type 0} → Stop → Result T Stop → Stop
 error_at e (Ok x) = e
 error_at e (Err f) = f
+
+-- none of the other stops is that for the sink
+pub too_long_apart : TooLong ≢ Sink
+too_long_apart e = cc
+
+pub source_apart : Source ≢ Sink
+source_apart e = cc
+
+pub memory_apart : NoMemory ≢ Sink
+memory_apart e = cc
 
 -- what is told of a run that stopped, but not for the sink
 pub at_stop : (T : Type 0) (e f : Stop) (P : Type 0) → ◌≡◌ {A = Result T Stop} (Err e) (Err f) → f ≢ Sink → (e ≢ Sink → P) → P

@@ -3,7 +3,7 @@ use Rattle.objsheet.specs.Serving.{stop_of}
 use Rattle.objsheet.specs.declared.stop.Stop.TheVariants.{TooLong, Source, NoMemory}
 use Rattle.objsheet.proofs.Serving.{same_error}
 use Rattle.objsheet.proofs.Outcomes.{tried_done, tried_read, tried_longer, tried_longer_input, tried_stopped, tried_broken, tried_starved}
-use Rattle.objsheet.proofs.Outcomes.{open_stopped, open_without_book, source_stop, at_stop}
+use Rattle.objsheet.proofs.Outcomes.{open_stopped, open_without_book, source_stop, at_stop, too_long_apart, source_apart, memory_apart}
 use Rattle.objsheet.proofs.trying.answer_input.Goals as goal
 
 pub returns-in_err-session-clause-stopped : goal.returns-in_err-session-clause-stopped
@@ -22,7 +22,7 @@ returns-in-Started-clause-longer g c =
     (g.S.Source.left c.start_session.new.input) (g.S.Source.left c.answer_lines.new.input) (g.K.Sink.written c.args.output.now)
     (g.K.Sink.written c.answer_lines.new.output)
     c.in_ok-reader.ensures.0 c.in_ok-reader.ensures.1 told.limit (rw c.in-Started.is at c.in_ok-session.ensures.opened) c.start_session.ensures.counts
-    told.counts (at_stop _ c.in-Err.stop TooLong _ long (λ wrong. cc) told.stopped) (told.too_long long).0 (told.too_long long).1
+    told.counts (at_stop _ c.in-Err.stop TooLong _ long too_long_apart told.stopped) (told.too_long long).0 (told.too_long long).1
 
 pub returns-in-Started-clause-longer_input : goal.returns-in-Started-clause-longer_input
 returns-in-Started-clause-longer_input g c =
@@ -41,7 +41,7 @@ returns-in-Started-clause-stopped g c =
     (g.S.Source.left c.start_session.new.input) (g.S.Source.left c.answer_lines.new.input) (g.K.Sink.written c.args.output.now)
     (g.K.Sink.written c.answer_lines.new.output)
     c.in_ok-reader.ensures.0 c.in_ok-reader.ensures.1 told.limit (rw c.in-Started.is at c.in_ok-session.ensures.opened) c.start_session.ensures.counts
-    told.counts (at_stop _ c.in-Err.stop Source _ source (λ wrong. cc) told.stopped) (told.dry source)
+    told.counts (at_stop _ c.in-Err.stop Source _ source source_apart told.stopped) (told.dry source)
 
 pub returns-in-Started-clause-sink_broken : goal.returns-in-Started-clause-sink_broken
 returns-in-Started-clause-sink_broken g c =
@@ -60,7 +60,7 @@ returns-in-Started-clause-memory_broken g c =
     (g.S.Source.left c.start_session.new.input) (g.S.Source.left c.answer_lines.new.input) (g.K.Sink.written c.args.output.now)
     (g.K.Sink.written c.answer_lines.new.output)
     c.in_ok-reader.ensures.0 c.in_ok-reader.ensures.1 told.limit (rw c.in-Started.is at c.in_ok-session.ensures.opened) c.start_session.ensures.counts
-    told.counts (at_stop _ c.in-Err.stop NoMemory _ is (λ wrong. cc) told.stopped)
+    told.counts (at_stop _ c.in-Err.stop NoMemory _ is memory_apart told.stopped)
 
 pub returns-in-Ok-clause-ended : goal.returns-in-Ok-clause-ended
 returns-in-Ok-clause-ended g c =

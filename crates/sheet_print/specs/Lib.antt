@@ -1,0 +1,5 @@
+pub mod Cells
+pub mod Widths
+pub mod Lines
+pub mod Books
+pub mod Shown
