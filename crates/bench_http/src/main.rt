@@ -41,12 +41,7 @@ fn number(word: Option<String>) -> usize {
 }
 
 // The bytes of the connection.
-fn stream(
-    alloc: Global,
-    length: usize,
-    fields: usize,
-    count: usize,
-) -> Result<Vec<u8>, NoMemory> {
+fn stream(alloc: Global, length: usize, fields: usize, count: usize) -> Result<Vec<u8>, NoMemory> {
     let head = head(alloc, length, fields)?;
     let mut bytes = Vec::new(alloc);
     for _ in 0..count {
