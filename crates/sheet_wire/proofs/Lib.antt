@@ -4,3 +4,4 @@ pub mod Back
 pub mod Parts
 pub mod Whole
 pub mod Agreed
+mod Sending

@@ -1,9 +1,11 @@
 // Faults as JSON.
-ghost use Rattle.std.specs.Prelude.{◌≡◌, IfOk};
+ghost use Rattle.std.specs.Prelude.{◌≡◌, IfOk, OnOk};
+ghost use Rattle.serde_json.specs.Events.{SendsValue};
 ghost use Rattle.serde_json.specs.View.{view};
 ghost use Rattle.sheet_requests.specs.Bodies.{place_data, placed_fault, not_one_fault, found_word, fault_data};
 
 use crate::path::path_of;
+use serde::{Serialize, Serializer};
 use serde_json::{Value as Json, json};
 use sheet_columns::{Columns, Fault, Place};
 use sheet_values::{NoMemory, NotOne};
@@ -34,6 +36,21 @@ pub fn fault_json(alloc: Global, columns: &Columns, fault: Fault) -> Result<Json
             "text too long",
             place_json(alloc, columns, place)?,
         ),
+    }
+}
+
+/// Sends a fault with its place. It fails for want of memory too.
+pub fn send_fault<S: Serializer>(
+    alloc: Global,
+    columns: &Columns,
+    fault: Fault,
+    out: &mut S,
+) -> Result<(), S::Error>
+    ensures { OnOk result (SendsValue (fault_data columns.now fault) (S.written out.old) (S.written out.new)) }
+{
+    match fault_json(alloc, columns, fault) {
+        Ok(fault) => fault.serialize(out),
+        Err(NoMemory) => Err(out.custom("no memory")),
     }
 }
 

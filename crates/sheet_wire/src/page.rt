@@ -1,112 +1,179 @@
-// Pages as JSON.
-ghost use Rattle.std.specs.Prelude.{◌≡◌, IfOk};
-ghost use Rattle.serde_json.specs.View.{view};
-ghost use Rattle.sheet_requests.specs.Bodies.{shown_data, list_data, row_data, rows_data, names_data, table_data, part_data};
+// Pages as JSON, sent part by part.
+ghost use Rattle.std.specs.Prelude.{codes, OnOk};
+ghost use Rattle.serde_json.specs.Events.{SendsValue};
+ghost use Rattle.sheet_columns.specs.declared.page.Part.TheVariants.{Show};
+ghost use Rattle.sheet_requests.specs.Bodies.{field, shown_data, list_data, row_data, rows_data, names_data, table_data, part_data};
 
-use crate::fault::fault_json;
-use crate::value::{value_json, values_json};
-use serde_json::{Value as Json, json};
+use crate::fault::send_fault;
+use crate::value::{send_value, send_values};
+use serde::Serializer;
 use sheet_columns::{Columns, Fault, Part, Row, Rows};
-use sheet_values::{Name, NoMemory, Set};
+use sheet_values::{Name, Set};
 use std::alloc::Global;
 
-/// The parts of a page.
-pub fn parts_json(alloc: Global, columns: &Columns, parts: &[Part]) -> Result<Json, NoMemory>
-    ensures { IfOk result (λ v. view v ≡ list_data (part_data columns.now) parts.now) }
+/// Sends a page.
+pub fn send_page<S: Serializer>(
+    alloc: Global,
+    columns: &Columns,
+    parts: &[Part],
+    out: &mut S,
+) -> Result<(), S::Error>
+    ensures { OnOk result (SendsValue (field (codes "page") (list_data (part_data columns.now) parts.now)) (S.written out.old) (S.written out.new)) }
 {
-    let mut list = Vec::new(alloc);
-    for part in parts {
-        list.push(part_json(alloc, columns, part)?)?;
-    }
-    Ok(Json::Array(list))
+    out.begin_map(Some(1))?;
+    out.key("page")?;
+    send_parts(alloc, columns, parts, out)?;
+    out.end_map()
 }
 
-fn part_json(alloc: Global, columns: &Columns, part: &Part) -> Result<Json, NoMemory>
-    ensures { IfOk result (λ v. view v ≡ part_data columns.now part.now) }
+fn send_parts<S: Serializer>(
+    alloc: Global,
+    columns: &Columns,
+    parts: &[Part],
+    out: &mut S,
+) -> Result<(), S::Error>
+    ensures { OnOk result (SendsValue (list_data (part_data columns.now) parts.now) (S.written out.old) (S.written out.new)) }
+{
+    out.begin_seq(Some(parts.len()))?;
+    for part in parts {
+        send_part(alloc, columns, part, out)?;
+    }
+    out.end_seq()
+}
+
+fn send_part<S: Serializer>(
+    alloc: Global,
+    columns: &Columns,
+    part: &Part,
+    out: &mut S,
+) -> Result<(), S::Error>
+    ensures { OnOk result (SendsValue (part_data columns.now part.now) (S.written out.old) (S.written out.new)) }
 {
     match part {
-        Part::Show { name, shown } => {
-            let shown = shown_json(alloc, columns, shown)?;
-            Ok(json!(in alloc; {"name": name.text(), "shows": shown})?)
-        }
+        Part::Show { name, shown } => send_slot(alloc, columns, name, shown, out),
         Part::Table { name, names, rows } => {
-            let names = names_json(alloc, names.as_slice())?;
-            let rows = rows_or_fault(alloc, columns, rows)?;
-            table_json(alloc, name.text(), names, rows)
+            send_table(alloc, columns, name, names.as_slice(), rows, out)
         }
     }
 }
 
-fn table_json(alloc: Global, name: &str, names: Json, rows: Json) -> Result<Json, NoMemory>
-    ensures { IfOk result (λ v. view v ≡ table_data name.now (view names) (view rows)) }
+fn send_slot<S: Serializer>(
+    alloc: Global,
+    columns: &Columns,
+    name: &Name,
+    shown: &Result<Set, Fault>,
+    out: &mut S,
+) -> Result<(), S::Error>
+    ensures { OnOk result (SendsValue (part_data columns.now (Show name.now shown.now)) (S.written out.old) (S.written out.new)) }
 {
-    Ok(json!(in alloc; {"name": name, "names": names, "table": rows})?)
+    out.begin_map(Some(2))?;
+    out.key("name")?;
+    out.str(name.text())?;
+    out.key("shows")?;
+    send_shown(alloc, columns, shown, out)?;
+    out.end_map()
 }
 
-fn names_json(alloc: Global, names: &[Name]) -> Result<Json, NoMemory>
-    ensures { IfOk result (λ v. view v ≡ names_data names.now) }
+fn send_table<S: Serializer>(
+    alloc: Global,
+    columns: &Columns,
+    name: &Name,
+    names: &[Name],
+    rows: &Result<Rows, Fault>,
+    out: &mut S,
+) -> Result<(), S::Error>
+    ensures { OnOk result (SendsValue (table_data name.now (names_data names.now) (rows_data columns.now rows.now)) (S.written out.old) (S.written out.new)) }
 {
-    let mut list = Vec::new(alloc);
+    out.begin_map(Some(3))?;
+    out.key("name")?;
+    out.str(name.text())?;
+    out.key("names")?;
+    send_names(names, out)?;
+    out.key("table")?;
+    send_rows_or_fault(alloc, columns, rows, out)?;
+    out.end_map()
+}
+
+fn send_names<S: Serializer>(names: &[Name], out: &mut S) -> Result<(), S::Error>
+    ensures { OnOk result (SendsValue (names_data names.now) (S.written out.old) (S.written out.new)) }
+{
+    out.begin_seq(Some(names.len()))?;
     for name in names {
-        list.push(Json::try_from_str(alloc, name.text())?)?;
+        out.str(name.text())?;
     }
-    Ok(Json::Array(list))
+    out.end_seq()
 }
 
-fn rows_or_fault(
+fn send_rows_or_fault<S: Serializer>(
     alloc: Global,
     columns: &Columns,
     rows: &Result<Rows, Fault>,
-) -> Result<Json, NoMemory>
-    ensures { IfOk result (λ v. view v ≡ rows_data columns.now rows.now) }
+    out: &mut S,
+) -> Result<(), S::Error>
+    ensures { OnOk result (SendsValue (rows_data columns.now rows.now) (S.written out.old) (S.written out.new)) }
 {
     match rows {
-        Ok(rows) => rows_json(alloc, columns, rows.as_slice()),
-        Err(fault) => fault_json(alloc, columns, *fault),
+        Ok(rows) => send_rows(alloc, columns, rows.as_slice(), out),
+        Err(fault) => send_fault(alloc, columns, *fault, out),
     }
 }
 
-fn rows_json(alloc: Global, columns: &Columns, rows: &[Row]) -> Result<Json, NoMemory>
-    ensures { IfOk result (λ v. view v ≡ list_data (row_data columns.now) rows.now) }
+fn send_rows<S: Serializer>(
+    alloc: Global,
+    columns: &Columns,
+    rows: &[Row],
+    out: &mut S,
+) -> Result<(), S::Error>
+    ensures { OnOk result (SendsValue (list_data (row_data columns.now) rows.now) (S.written out.old) (S.written out.new)) }
 {
-    let mut list = Vec::new(alloc);
+    out.begin_seq(Some(rows.len()))?;
     for row in rows {
-        list.push(row_json(alloc, columns, row)?)?;
+        send_row(alloc, columns, row, out)?;
     }
-    Ok(Json::Array(list))
+    out.end_seq()
 }
 
-fn row_json(alloc: Global, columns: &Columns, row: &Row) -> Result<Json, NoMemory>
-    ensures { IfOk result (λ v. view v ≡ row_data columns.now row.now) }
+fn send_row<S: Serializer>(
+    alloc: Global,
+    columns: &Columns,
+    row: &Row,
+    out: &mut S,
+) -> Result<(), S::Error>
+    ensures { OnOk result (SendsValue (row_data columns.now row.now) (S.written out.old) (S.written out.new)) }
 {
-    let of = value_json(alloc, &row.of)?;
-    let shows = shows_json(alloc, columns, row.shows.as_slice())?;
-    Ok(json!(in alloc; {"of": of, "shows": shows})?)
+    out.begin_map(Some(2))?;
+    out.key("of")?;
+    send_value(&row.of, out)?;
+    out.key("shows")?;
+    send_shows(alloc, columns, row.shows.as_slice(), out)?;
+    out.end_map()
 }
 
-fn shows_json(
+fn send_shows<S: Serializer>(
     alloc: Global,
     columns: &Columns,
     shows: &[Result<Set, Fault>],
-) -> Result<Json, NoMemory>
-    ensures { IfOk result (λ v. view v ≡ list_data (shown_data columns.now) shows.now) }
+    out: &mut S,
+) -> Result<(), S::Error>
+    ensures { OnOk result (SendsValue (list_data (shown_data columns.now) shows.now) (S.written out.old) (S.written out.new)) }
 {
-    let mut list = Vec::new(alloc);
+    out.begin_seq(Some(shows.len()))?;
     for shown in shows {
-        list.push(shown_json(alloc, columns, shown)?)?;
+        send_shown(alloc, columns, shown, out)?;
     }
-    Ok(Json::Array(list))
+    out.end_seq()
 }
 
-fn shown_json(
+fn send_shown<S: Serializer>(
     alloc: Global,
     columns: &Columns,
     shown: &Result<Set, Fault>,
-) -> Result<Json, NoMemory>
-    ensures { IfOk result (λ v. view v ≡ shown_data columns.now shown.now) }
+    out: &mut S,
+) -> Result<(), S::Error>
+    ensures { OnOk result (SendsValue (shown_data columns.now shown.now) (S.written out.old) (S.written out.new)) }
 {
     match shown {
-        Ok(set) => values_json(alloc, set.as_slice()),
-        Err(fault) => fault_json(alloc, columns, *fault),
+        Ok(set) => send_values(set.as_slice(), out),
+        Err(fault) => send_fault(alloc, columns, *fault, out),
     }
 }

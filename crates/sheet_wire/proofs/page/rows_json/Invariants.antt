@@ -1,7 +1,0 @@
-use Rattle.std.proofs.Common.{◌≡◌, map, take}
-use Rattle.serde_json.specs.View.{view}
-use Rattle.sheet_requests.specs.Bodies.{row_data}
-use Rattle.sheet_wire.proofs.page.rows_json.Given as goal
-
-abbrev pub invariant-loop-row : goal.invariant-loop-row
-invariant-loop-row l = map view l.list.items ≡ map (row_data l.columns) (take l.row-index l.rows)
