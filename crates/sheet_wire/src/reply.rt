@@ -70,10 +70,7 @@ fn send_reply<S: Serializer>(
             callers,
             kept,
             objects,
-        } => send_json(
-            stats_json(alloc, *accepted, *callers, *kept, *objects),
-            out,
-        ),
+        } => send_json(stats_json(alloc, *accepted, *callers, *kept, *objects), out),
         Reply::Wire(refusal) => send_json(wire_json(alloc, refusal), out),
         Reply::Refused(refusal) => send_json(refusal_json(alloc, columns, refusal), out),
     }
@@ -99,7 +96,11 @@ fn send_answer<S: Serializer>(number: u64, answer: &Answer, out: &mut S) -> Resu
     }
 }
 
-fn send_values_answer<S: Serializer>(number: u64, values: &[Value], out: &mut S) -> Result<(), S::Error>
+fn send_values_answer<S: Serializer>(
+    number: u64,
+    values: &[Value],
+    out: &mut S,
+) -> Result<(), S::Error>
     ensures { OnOk result (SendsValue (answer_data number (Values values.now)) (S.written out.old) (S.written out.new)) }
 {
     out.begin_map(Some(2))?;

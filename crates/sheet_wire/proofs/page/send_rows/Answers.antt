@@ -11,4 +11,4 @@ returns g c =
     let written = g.S.Serializer.written in
     let none : drop c.loop-row.row-index xs ≡ [] = drop_all c.loop-row.row-index xs (omega arith) in
     on_ok_weaker c.end_seq.result (λ e. all_sent (row_data c.args.columns.now) xs c.loop-row.row-index (written c.args.out.now) (written c.begin_seq.new.self) (written c.loop-row.out)
-        (written c.end_seq.new.self) none c.in_ok-begin_seq.ensures c.loop-row.invariant e) c.end_seq.ensures
+    (written c.end_seq.new.self) none c.in_ok-begin_seq.ensures c.loop-row.invariant e) c.end_seq.ensures
