@@ -43,7 +43,7 @@ pub fn run<S: Source, K: Sink, D: Disk>(
 {
     match command_of(words) {
         Some(Command::Check) => check(alloc, input, output),
-        Some(Command::Try) => try_lines(alloc, input, output),
+        Some(Command::Try) => try_lines(alloc, input, output, disk),
         Some(Command::Init { name, key }) => init(alloc, name, key, input, output, disk),
         None => write_last_line(output, b"usage\n", USAGE),
     }

@@ -11,6 +11,7 @@ use crate::opening::Opening;
 use objsheet_check::{definition_line, type_line};
 use sheet_columns::Columns;
 use sheet_machine::{Answered, App, StartRefusal};
+use sheet_outside::Disk;
 use sheet_requests::{Refusal, Reply, Route, WireRefusal};
 use sheet_values::{Name, NoMemory, Steps};
 use sheet_wire::{print_reply, read_request};
@@ -31,7 +32,9 @@ pub struct Session {
 }
 
 impl Model for Session {
+    ghost use Rattle.std.specs.Prelude.{◌≡◌};
     ghost use Rattle.sheet_machine_laws.specs.Machine.{Holding};
+    ghost use Rattle.sheet_machine.specs.Answers.{in_memory};
     ghost use Rattle.sheet_columns.specs.contracts.formula.Core as core;
     ghost use Rattle.sheet_columns.specs.contracts.statement.CoreStatement as statement;
     ghost use Rattle.sheet_columns.specs.contracts.statement.Statements as statements;
@@ -41,7 +44,9 @@ impl Model for Session {
 
     ghost coded = { Prim.hlevel (codes, core.the_row.coded, statement.the_row.coded, statements.the_row.coded) };
 
-    ghost view = { λ s. s.app };
+    ghost view = { λ s. s.app.machine.held };
+
+    ghost invariant = { λ s. s.app ≡ in_memory s.app.machine.held };
 }
 
 /// The workbook at the start of a definition, whose operator has the key `op`; or the line that says why it is refused.
@@ -67,13 +72,19 @@ pub fn open_session(alloc: Global, text: &[u8]) -> Result<Opening, NoMemory>
 }
 
 impl Session {
-    /// Answers a request line. Where there was no memory, the body is empty, and nothing changed.
-    pub fn answer<G: Ledger>(&mut self, line: &[u8], steps: &mut Steps<G>) -> Answered
+    /// Answers a request line. Where there was no memory, the body is empty, and nothing changed. The disk isn't called.
+    pub fn answer<D: Disk, G: Ledger>(
+        &mut self,
+        disk: &mut D,
+        line: &[u8],
+        steps: &mut Steps<G>,
+    ) -> Answered
         requires { length line.now ≤ LONGEST_REQUEST }
-        ensures { IsAnswered self.old line.now result.reply result.body.items self.new }
+        ensures answered { IsAnswered self.old line.now result.reply result.body.items self.new }
+        ensures still { disk.new ≡ disk.old }
     {
         match read_request(self.alloc, &Route::Line, line) {
-            Ok(request) => self.app.answer(&request, steps),
+            Ok(request) => self.app.answer(disk, &request, steps),
             Err(refusal) => self.refuse(line, refusal),
         }
     }

@@ -20,7 +20,7 @@ use sheet_define::DefinitionRefusal;
 use sheet_define_reading::texts_stand_for_one_definition;
 use sheet_lines::{LineEnd, LineReader, ReadStop, read_to_divider, without_return, write_all};
 use sheet_machine::Answered;
-use sheet_outside::{Failed, Sink, Source};
+use sheet_outside::{Disk, Failed, Sink, Source};
 use sheet_requests::{Refusal, Reply};
 use sheet_values::{LONGEST_DEFINITION, NoMemory, Steps};
 use std::alloc::Global;
@@ -37,8 +37,13 @@ const TOO_LONG: &[u8] = b"{\"error\":\"body too long\",\"limit\":65536}";
 /// Reads a definition, a line `%%` and request lines, and answers each request line that isn't empty with one line. The
 /// operator's key is `op`.
 ///
-/// A definition that is refused ends the run with the line that `check` writes of it.
-pub fn try_lines<S: Source, K: Sink>(alloc: Global, input: &mut S, output: &mut K) -> u8
+/// A definition that is refused ends the run with the line that `check` writes of it. The disk isn't called.
+pub fn try_lines<S: Source, K: Sink, D: Disk>(
+    alloc: Global,
+    input: &mut S,
+    output: &mut K,
+    disk: &mut D,
+) -> u8
     ensures statuses { (result ≡ 0) ⊎ ((result ≡ 1) ⊎ ((result ≡ 3) ⊎ ((result ≡ 4) ⊎ (result ≡ 7)))) }
     ensures done { result ≡ 0 → WhereTold IsDone (both (S.left input.old) (K.written output.old)) (both (S.left input.new) (K.written output.new)) }
     ensures done_input { result ≡ 0 → WhereTold IsRead (S.left input.old) (S.left input.new) }
@@ -49,8 +54,9 @@ pub fn try_lines<S: Source, K: Sink>(alloc: Global, input: &mut S, output: &mut 
     ensures sink { result ≡ 4 → Rose (K.faults output.old) (K.faults output.new) }
     ensures sink_broken { result ≡ 4 → WhereTold IsBrokenOff (both (S.left input.old) (K.written output.old)) (both (S.left input.new) (K.written output.new)) }
     ensures memory_broken { result ≡ 7 → WhereTold IsBrokenOff (both (S.left input.old) (K.written output.old)) (both (S.left input.new) (K.written output.new)) }
+    ensures still { disk.new ≡ disk.old }
 {
-    match answer_input::<S, K, Brand>(alloc, Blank::new(1), input, output) {
+    match answer_input::<S, K, D, Brand>(alloc, Blank::new(1), input, output, disk) {
         Ok(Ending::Done) => DONE,
         Ok(Ending::Refused(line)) => write_last_line(output, line.as_slice(), REFUSED),
         Err(Stop::TooLong) => write_last_line(
@@ -65,11 +71,12 @@ pub fn try_lines<S: Source, K: Sink>(alloc: Global, input: &mut S, output: &mut 
 }
 
 // Reads a definition and request lines, and writes a reply to each line.
-fn answer_input<S: Source, K: Sink, G: Ledger>(
+fn answer_input<S: Source, K: Sink, D: Disk, G: Ledger>(
     alloc: Global,
     blank: Blank,
     input: &mut S,
     output: &mut K,
+    disk: &mut D,
 ) -> Result<Ending, Stop>
     requires name { blank.name ≡ G.name }
     requires parts { blank.parts ≡ G.parts }
@@ -85,6 +92,7 @@ fn answer_input<S: Source, K: Sink, G: Ledger>(
     ensures later_source { S.faults input.old ≤ S.faults input.new }
     ensures sink { IsErrOf result Stop.Sink → Rose (K.faults output.old) (K.faults output.new) }
     ensures later_sink { K.faults output.old ≤ K.faults output.new }
+    ensures still { disk.new ≡ disk.old }
 {
     texts_stand_for_one_definition();
     let mut steps = Steps::<G>::start(blank);
@@ -92,7 +100,15 @@ fn answer_input<S: Source, K: Sink, G: Ledger>(
     match start_session(alloc, &mut reader, input)? {
         Opening::Started(session) => {
             let mut session = session;
-            match answer_lines(alloc, &mut session, &mut reader, input, output, &mut steps) {
+            match answer_lines(
+                alloc,
+                &mut session,
+                &mut reader,
+                input,
+                output,
+                disk,
+                &mut steps,
+            ) {
                 Ok(()) => Ok(Ending::Done),
                 Err(stop) => Err(stop),
             }
@@ -133,12 +149,13 @@ fn refuse_length(alloc: Global) -> Result<Opening, NoMemory>
 }
 
 // Answers the request lines that are left of the input, each before the next one is read.
-fn answer_lines<S: Source, K: Sink, G: Ledger>(
+fn answer_lines<S: Source, K: Sink, D: Disk, G: Ledger>(
     alloc: Global,
     session: &mut Session,
     reader: &mut LineReader,
     input: &mut S,
     output: &mut K,
+    disk: &mut D,
     steps: &mut Steps<G>,
 ) -> Result<(), Stop>
     ensures done { OnOk result (WhereTold (ServesAll session.old session.new) (both (rest reader.old (S.left input.old)) (K.written output.old)) (both (rest reader.new (S.left input.new)) (K.written output.new))) }
@@ -153,18 +170,20 @@ fn answer_lines<S: Source, K: Sink, G: Ledger>(
     ensures later_source { S.faults input.old ≤ S.faults input.new }
     ensures sink { IsErrOf result Stop.Sink → Rose (K.faults output.old) (K.faults output.new) }
     ensures later_sink { K.faults output.old ≤ K.faults output.new }
+    ensures still { disk.new ≡ disk.old }
 {
     let mut line = Vec::new(alloc);
-    'lines: while answer_line(session, reader, input, output, &mut line, steps)? {}
+    'lines: while answer_line(session, reader, input, output, disk, &mut line, steps)? {}
     Ok(())
 }
 
 // One line: it is read, and answered unless it is empty. False at the end of the input.
-fn answer_line<S: Source, K: Sink, G: Ledger>(
+fn answer_line<S: Source, K: Sink, D: Disk, G: Ledger>(
     session: &mut Session,
     reader: &mut LineReader,
     input: &mut S,
     output: &mut K,
+    disk: &mut D,
     line: &mut Vec<u8>,
     steps: &mut Steps<G>,
 ) -> Result<bool, Stop>
@@ -182,30 +201,39 @@ fn answer_line<S: Source, K: Sink, G: Ledger>(
     ensures later_source { S.faults input.old ≤ S.faults input.new }
     ensures sink { IsErrOf result Stop.Sink → Rose (K.faults output.old) (K.faults output.new) }
     ensures later_sink { K.faults output.old ≤ K.faults output.new }
+    ensures still { disk.new ≡ disk.old }
 {
     match reader.next_line(input, line, MOST)? {
         LineEnd::Nothing => Ok(false),
         LineEnd::Input => {
-            write_reply(session, line.as_slice(), output, steps)?;
+            write_reply(session, line.as_slice(), output, disk, steps)?;
             Ok(false)
         }
         LineEnd::Feed => {
-            write_reply(session, without_return(line.as_slice()), output, steps)?;
+            write_reply(
+                session,
+                without_return(line.as_slice()),
+                output,
+                disk,
+                steps,
+            )?;
             Ok(true)
         }
     }
 }
 
 // Answers a request line, unless it is empty.
-fn write_reply<K: Sink, G: Ledger>(
+fn write_reply<K: Sink, D: Disk, G: Ledger>(
     session: &mut Session,
     request: &[u8],
     output: &mut K,
+    disk: &mut D,
     steps: &mut Steps<G>,
 ) -> Result<(), Failed>
     ensures replied { OnOk result (WhereTold (Replies session.old session.new request.now) (K.written output.old) (K.written output.new)) }
     ensures broken { OnErr result (WhereTold (RepliesInPart session.old request.now) (K.written output.old) (K.written output.new)) }
     ensures cause { HasCause (K.faults output.old) (K.faults output.new) result }
+    ensures still { disk.new ≡ disk.old }
 {
     if request.is_empty() {
         return Ok(());
@@ -213,7 +241,7 @@ fn write_reply<K: Sink, G: Ledger>(
     if request.len() > LONGEST_REQUEST {
         return write_line(output, TOO_LONG);
     }
-    let answered = session.answer(request, steps);
+    let answered = session.answer(disk, request, steps);
     write_line(output, body_of(&answered))
 }
 

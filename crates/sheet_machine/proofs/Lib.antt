@@ -4,3 +4,10 @@ pub mod Ending
 pub mod Stepping
 pub mod Admissions
 pub mod Beginning
+pub mod Suspending
+pub mod JournalFiles
+pub mod Moments
+pub mod Outcomes
+pub mod Answering
+pub mod Appended
+pub mod Requests

@@ -4,3 +4,8 @@ pub mod Gives
 pub mod Admissions
 pub mod Judging
 pub mod Starts
+pub mod Recovering
+pub mod Recording
+pub mod Becoming
+pub mod Answers
+pub mod StartsFrom

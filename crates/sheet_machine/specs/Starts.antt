@@ -9,19 +9,14 @@ use Rattle.sheet_types_formulas.specs.declared.refusal.TypeRefusal.{TypeRefusal}
 use Rattle.sheet_types_formulas.specs.declared.refusal.TypeRefusal.TheVariants.{NoMemory as NoMemoryToType}
 use Rattle.sheet_types.specs.Elaboration.{elaborated}
 use Rattle.sheet_books.specs.declared.book.Contents.{Contents}
-use Rattle.sheet_machine_laws.specs.Machine.{Holding, start}
+use Rattle.sheet_machine_laws.specs.Machine.{start}
 use Rattle.sheet_machine.specs.declared.held.Held.{Held}
+use Rattle.sheet_machine.specs.Answers.{in_memory}
+use Rattle.sheet_machine.specs.Recording.{App}
+use Rattle.sheet_machine.specs.StartsFrom.{StartsFrom}
 use Rattle.sheet_machine.specs.Held.{holding, IsReady}
 use Rattle.sheet_machine.specs.declared.starting.StartRefusal.{StartRefusal}
 use Rattle.sheet_machine.specs.declared.starting.StartRefusal.TheVariants.{Definition as StandsForNone, Types, NoMemory}
-
--- the text stands for a definition, and what is held is the start of its book, with the operator's key
-pub record StartsFrom (text key : List ℕ) (h : Holding) : Type 0 where
-  pub definition : Definition
-  pub stands : IsDefinition text definition
-  pub book : Contents
-  pub elaborates : elaborated definition ≡ Ok book
-  pub is : h ≡ start book key
 
 -- the text stands for a definition that has no book
 pub record HasNoBook (text : List ℕ) (why : TypeRefusal) : Type 0 where
@@ -35,9 +30,9 @@ pub record IsNoDefinition (text : List ℕ) (why : DefinitionRefusal) : Type 0 w
   pub refused : Defines text (Err why)
   pub not_memory : why ≡ NoMemoryToRead → ⊥
 
--- what starting comes to; want of memory alone is free
-abbrev pub Starts : List ℕ → List ℕ → Result Holding StartRefusal → Type 0
-Starts text key (Ok h) = StartsFrom text key h
+-- what starting comes to: an App without a journal, in which nothing is in doubt; want of memory alone is free
+abbrev pub Starts : List ℕ → List ℕ → Result App StartRefusal → Type 0
+Starts text key (Ok a) = StartsFrom text key a.machine.held × (a ≡ in_memory a.machine.held)
 Starts text key (Err (StandsForNone why)) = IsNoDefinition text why
 Starts text key (Err (Types why)) = HasNoBook text why
 Starts text key (Err NoMemory) = Unit {0}

@@ -1,18 +1,18 @@
 // Requests that are accepted.
-ghost use Rattle.std.specs.Prelude.{◌≡◌, [], IfOk};
+ghost use Rattle.std.specs.Prelude.{◌≡◌, None, IfOk};
 ghost use Rattle.sheet_callers.specs.Callers.{caller_at};
 ghost use Rattle.sheet_callers.specs.Judging.{IsNext};
 ghost use Rattle.sheet_machine_laws.specs.Act.{accept, most_requests};
 ghost use Rattle.sheet_meaning.specs.declared.refusal.Which.TheVariants.{Requests};
 ghost use Rattle.sheet_requests.specs.declared.reply.Refusal.TheVariants as refused;
-ghost use Rattle.sheet_machine.specs.Gives.{Gives};
+ghost use Rattle.sheet_machine.specs.Gives.{Gives, HasLine};
 ghost use Rattle.sheet_machine.specs.Held.{holding, before_changes};
 ghost use Rattle.sheet_machine.specs.Told.{told};
 ghost use Rattle.sheet_requests.specs.declared.reply.Answer.TheVariants as answers;
 ghost use Rattle.sheet_requests.specs.declared.reply.Reply.TheVariants as replies;
 
 use crate::answered::{Answered, printed, refuse};
-use crate::held::{Held, MOST_REQUESTS};
+use crate::held::{Held, MOST_REQUESTS, Pending};
 use crate::judging::copy;
 use sheet_columns::Columns;
 use sheet_engine::EngineMark;
@@ -51,8 +51,8 @@ pub(crate) fn prepare(
     Ok(Prepared { answered, kept })
 }
 
-/// Accepts the request of a caller whose number is fresh, after the run of a procedure with that reply, where there is room; else all
-/// that the run changed is undone.
+/// Accepts the request of a caller whose number is fresh, after the run of a procedure with that reply, where there is room: it is then
+/// pending. Else all that the run changed is undone.
 pub(crate) fn accept_run(
     held: &mut Held,
     mark: EngineMark,
@@ -63,7 +63,9 @@ pub(crate) fn accept_run(
 ) -> Result<Answered, NoMemory>
     requires next { IsNext (caller_at held.old.callers caller) number }
     requires mark { mark.state.place ≡ 0 }
-    ensures { Gives (accept (before_changes held.old) (holding held.old) caller number line.items (answers.Values set)) (before_changes held.old) held.new result }
+    requires none { held.old.pending ≡ None }
+    ensures gives { Gives (accept (before_changes held.old) (holding held.old) caller number line.items (answers.Values set)) (before_changes held.old) held.new result }
+    ensures line { HasLine held.new line.items }
 {
     if held.accepted >= MOST_REQUESTS {
         held.take_back(mark);
@@ -72,7 +74,14 @@ pub(crate) fn accept_run(
     let answer = Answer::Values(set);
     match prepare(held.alloc, held.engine.book().columns(), number, answer) {
         Ok(Prepared { answered, kept }) => {
-            held.keep(caller, number, line, kept);
+            held.suspend(Pending {
+                caller,
+                number,
+                line,
+                kept,
+                admitted: false,
+                mark,
+            });
             Ok(answered)
         }
         Err(NoMemory) => {

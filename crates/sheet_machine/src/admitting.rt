@@ -1,5 +1,5 @@
 // Admissions of callers.
-ghost use Rattle.std.specs.Prelude.{◌≡◌, ℕ, List, Option, [], Some};
+ghost use Rattle.std.specs.Prelude.{◌≡◌, ℕ, List, Option, [], Some, None};
 ghost use Rattle.sheet_callers.specs.Admitting.{refused as refused_admission};
 ghost use Rattle.sheet_callers.specs.Callers.{Caller as TheCaller, caller_at, IsWithin};
 ghost use Rattle.sheet_callers.specs.Judging.{IsNext};
@@ -7,13 +7,13 @@ ghost use Rattle.sheet_callers.specs.declared.admission.AdmitRefusal.{AdmitRefus
 ghost use Rattle.sheet_machine_laws.specs.Act.{admit as the_admission, admit_unless};
 ghost use Rattle.sheet_machine.specs.Admissions.{IsAdmissionRefusal};
 ghost use Rattle.sheet_machine_laws.specs.Judging.{for_operator, where_fresh};
-ghost use Rattle.sheet_machine.specs.Gives.{Gives};
+ghost use Rattle.sheet_machine.specs.Gives.{Gives, HasLine, HasLineOf};
 ghost use Rattle.sheet_machine.specs.Held.{holding, IsReady};
 ghost use Rattle.sheet_requests.specs.Lines.{request_line};
 
 use crate::accepting::{no_room, prepare};
 use crate::answered::{Answered, refuse, tell};
-use crate::held::{Held, MOST_REQUESTS};
+use crate::held::{Held, MOST_REQUESTS, Pending};
 use crate::judging::{OPERATOR, judge};
 use sheet_callers::AdmitRefusal;
 use sheet_requests::{Answer, Refusal, Request};
@@ -22,7 +22,8 @@ use sheet_wire::print_request;
 
 // Why nobody is admitted, after which all is as before.
 fn refuse_admission(held: &Held, refusal: AdmitRefusal) -> Result<Answered, NoMemory>
-    requires { held.now.engine.state.earlier ≡ [] }
+    requires settled { held.now.engine.state.earlier ≡ [] }
+    requires none { held.now.pending ≡ None }
     ensures { (newkey name line : List ℕ) (n o : ℕ) (r : Option TheRefusal) → IsAdmissionRefusal refusal r → Gives (admit_unless (holding held.now) newkey name n o line r) (holding held.now) held.now result }
 {
     match refusal {
@@ -44,7 +45,8 @@ fn admit(
 ) -> Result<Answered, NoMemory>
     requires ready { IsReady held.old }
     requires next { IsNext (caller_at held.old.callers 1) number }
-    ensures { Gives (admit_unless (holding held.old) newkey.now name.now number object line.items (refused_admission held.old.callers newkey.now name.now)) (holding held.old) held.new result }
+    ensures gives { Gives (admit_unless (holding held.old) newkey.now name.now number object line.items (refused_admission held.old.callers newkey.now name.now)) (holding held.old) held.new result }
+    ensures line { HasLine held.new line.items }
 {
     let (key, name) = (newkey.copy()?, name.copy()?);
     let answer = Answer::Caller(held.callers.count() + 1);
@@ -56,7 +58,15 @@ fn admit(
         held.callers.take_back();
         return refuse(held, no_room());
     }
-    held.keep(OPERATOR, number, line, prepared.kept);
+    let mark = held.engine.mark();
+    held.suspend(Pending {
+        caller: OPERATOR,
+        number,
+        line,
+        kept: prepared.kept,
+        admitted: true,
+        mark,
+    });
     Ok(prepared.answered)
 }
 
@@ -71,7 +81,8 @@ fn admit_live(
 ) -> Result<Answered, NoMemory>
     requires ready { IsReady held.old }
     requires next { IsNext (caller_at held.old.callers 1) number }
-    ensures { Gives (the_admission (holding held.old) newkey.now name.now number object line.items) (holding held.old) held.new result }
+    ensures gives { Gives (the_admission (holding held.old) newkey.now name.now number object line.items) (holding held.old) held.new result }
+    ensures line { HasLine held.new line.items }
 {
     let column = held.engine.book().callers_column();
     if held.engine.state().column_of(object) == Some(column) {
@@ -92,7 +103,8 @@ fn admit_numbered(
 ) -> Result<Answered, NoMemory>
     requires ready { IsReady held.old }
     requires within { IsWithin held.old.callers 1 }
-    ensures { (c : TheCaller) → caller_at held.old.callers 1 ≡ Some c → Gives (where_fresh (holding held.old) c number line.items (the_admission (holding held.old) newkey.now name.now number object line.items)) (holding held.old) held.new result }
+    ensures gives { (c : TheCaller) → caller_at held.old.callers 1 ≡ Some c → Gives (where_fresh (holding held.old) c number line.items (the_admission (holding held.old) newkey.now name.now number object line.items)) (holding held.old) held.new result }
+    ensures line { HasLine held.new line.items }
 {
     match judge(&held.callers, OPERATOR, number, line.as_slice())? {
         Some(reply) => tell(held, reply),
@@ -111,7 +123,8 @@ pub(crate) fn admit_asked(
     object: u64,
 ) -> Result<Answered, NoMemory>
     requires ready { IsReady held.old }
-    ensures { Gives (for_operator (holding held.old) key.now (λ c. where_fresh (holding held.old) c number (request_line request.now) (the_admission (holding held.old) newkey.now name.now number object (request_line request.now)))) (holding held.old) held.new result }
+    ensures gives { Gives (for_operator (holding held.old) key.now (λ c. where_fresh (holding held.old) c number (request_line request.now) (the_admission (holding held.old) newkey.now name.now number object (request_line request.now)))) (holding held.old) held.new result }
+    ensures line { HasLineOf held.new request.now }
 {
     match held.callers.find_key(key.bytes()) {
         Some(caller) => {

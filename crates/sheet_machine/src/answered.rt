@@ -1,8 +1,9 @@
 // What is answered.
-ghost use Rattle.std.specs.Prelude.{◌≡◌, [], IfOk};
+ghost use Rattle.std.specs.Prelude.{◌≡◌, ℕ, List, [], None, IfOk, false};
 ghost use Rattle.sheet_requests.specs.declared.reply.Reply.TheVariants.{Refused};
 ghost use Rattle.sheet_requests.specs.declared.reply.Refusal.TheVariants as refused;
 ghost use Rattle.sheet_machine_laws.specs.Judging.{refuse};
+ghost use Rattle.sheet_machine_laws.specs.Step.{is_accepted};
 ghost use Rattle.sheet_machine.specs.Gives.{Gives};
 ghost use Rattle.sheet_machine.specs.Held.{holding};
 ghost use Rattle.sheet_machine.specs.Told.{lacks_memory, told};
@@ -45,7 +46,9 @@ pub(crate) fn printed(alloc: Global, columns: &Columns, reply: Reply) -> Result<
 
 /// A reply after which all is as before.
 pub(crate) fn tell(held: &Held, reply: Reply) -> Result<Answered, NoMemory>
-    requires { held.now.engine.state.earlier ≡ [] }
+    requires settled { held.now.engine.state.earlier ≡ [] }
+    requires none { held.now.pending ≡ None }
+    requires refused { is_accepted reply ≡ false }
     ensures { Gives (holding held.now, reply) (holding held.now) held.now result }
 {
     printed(held.alloc, held.engine.book().columns(), reply)
@@ -53,7 +56,8 @@ pub(crate) fn tell(held: &Held, reply: Reply) -> Result<Answered, NoMemory>
 
 /// A refusal, after which all is as before.
 pub(crate) fn refuse(held: &Held, refusal: Refusal) -> Result<Answered, NoMemory>
-    requires { held.now.engine.state.earlier ≡ [] }
+    requires settled { held.now.engine.state.earlier ≡ [] }
+    requires none { held.now.pending ≡ None }
     ensures { Gives (refuse (holding held.now) refusal) (holding held.now) held.now result }
 {
     tell(held, Reply::Refused(refusal))

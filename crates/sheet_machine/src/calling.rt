@@ -1,11 +1,11 @@
 // Calls of procedures.
-ghost use Rattle.std.specs.Prelude.{◌≡◌, ◌<◌, [], ℕ, List, Result, length, slice_get, Some};
+ghost use Rattle.std.specs.Prelude.{◌≡◌, ◌<◌, [], ℕ, List, Result, length, slice_get, Some, None};
 ghost use Rattle.sheet_books.specs.declared.body.Procedure.{Procedure as TheProcedure};
 ghost use Rattle.sheet_callers.specs.Callers.{Caller as TheCaller, caller_at, IsWithin};
 ghost use Rattle.sheet_callers.specs.Judging.{IsNext};
 ghost use Rattle.sheet_machine_laws.specs.Act.{by_run, run_of, who as who_is, call as the_call};
 ghost use Rattle.sheet_machine_laws.specs.Judging.{for_caller, where_fresh, with_arguments};
-ghost use Rattle.sheet_machine.specs.Gives.{Gives};
+ghost use Rattle.sheet_machine.specs.Gives.{Gives, HasLine, HasLineOf};
 ghost use Rattle.sheet_machine.specs.Held.{holding, IsReady};
 ghost use Rattle.sheet_meaning.specs.Statements.{Point};
 ghost use Rattle.sheet_meaning.specs.declared.refusal.Refusal.{Refusal as Stop};
@@ -25,7 +25,8 @@ use std::sync::ledger::Ledger;
 
 // The refusal of a run, after which all is as before.
 fn refuse_run(held: &Held, refusal: ProcedureRefusal) -> Result<Answered, NoMemory>
-    requires { held.now.engine.state.earlier ≡ [] }
+    requires settled { held.now.engine.state.earlier ≡ [] }
+    requires none { held.now.pending ≡ None }
     ensures { (k n : ℕ) (line : List ℕ) (r : Result Point Stop) → IsRefusal refusal r → Gives (by_run (holding held.now) k n line r) (holding held.now) held.now result }
 {
     match refusal {
@@ -56,7 +57,8 @@ fn run<G: Ledger>(
     requires next { IsNext (caller_at held.old.callers caller) number }
     requires counted { procedure < length held.old.engine.book.procedures }
     requires good { AreGood held.old.engine procedure with.now }
-    ensures { (c : TheCaller) (p : TheProcedure) → caller_at held.old.callers caller ≡ Some c → slice_get held.old.engine.book.procedures procedure ≡ Some p → Gives (by_run (holding held.old) caller number line.items (run_of (holding held.old) p (who_is caller c) with.now)) (holding held.old) held.new result }
+    ensures gives { (c : TheCaller) (p : TheProcedure) → caller_at held.old.callers caller ≡ Some c → slice_get held.old.engine.book.procedures procedure ≡ Some p → Gives (by_run (holding held.old) caller number line.items (run_of (holding held.old) p (who_is caller c) with.now)) (holding held.old) held.new result }
+    ensures line { HasLine held.new line.items }
 {
     let mark = held.engine.mark();
     let who = who(&held.callers, caller);
@@ -87,7 +89,8 @@ fn call_found<G: Ledger>(
     requires ready { IsReady held.old }
     requires next { IsNext (caller_at held.old.callers caller) number }
     requires counted { procedure < length held.old.engine.book.procedures }
-    ensures { (c : TheCaller) (p : TheProcedure) → caller_at held.old.callers caller ≡ Some c → slice_get held.old.engine.book.procedures procedure ≡ Some p → Gives (with_arguments (holding held.old) p.parameters with.now (by_run (holding held.old) caller number line.items (run_of (holding held.old) p (who_is caller c) with.now))) (holding held.old) held.new result }
+    ensures gives { (c : TheCaller) (p : TheProcedure) → caller_at held.old.callers caller ≡ Some c → slice_get held.old.engine.book.procedures procedure ≡ Some p → Gives (with_arguments (holding held.old) p.parameters with.now (by_run (holding held.old) caller number line.items (run_of (holding held.old) p (who_is caller c) with.now))) (holding held.old) held.new result }
+    ensures line { HasLine held.new line.items }
 {
     let parameters = &held.engine.book().procedure(procedure).parameters;
     match bad_argument(&held.engine, parameters, with) {
@@ -108,7 +111,8 @@ fn call_named<G: Ledger>(
 ) -> Result<Answered, NoMemory>
     requires ready { IsReady held.old }
     requires next { IsNext (caller_at held.old.callers caller) number }
-    ensures { (c : TheCaller) → caller_at held.old.callers caller ≡ Some c → Gives (the_call (holding held.old) caller c name.now number line.items with.now) (holding held.old) held.new result }
+    ensures gives { (c : TheCaller) → caller_at held.old.callers caller ≡ Some c → Gives (the_call (holding held.old) caller c name.now number line.items with.now) (holding held.old) held.new result }
+    ensures line { HasLine held.new line.items }
 {
     match held.engine.book().procedure_named(name.bytes()) {
         Some(procedure) => call_found(held, procedure, caller, number, line, with, steps),
@@ -128,7 +132,8 @@ fn call_numbered<G: Ledger>(
 ) -> Result<Answered, NoMemory>
     requires ready { IsReady held.old }
     requires within { IsWithin held.old.callers caller }
-    ensures { (c : TheCaller) → caller_at held.old.callers caller ≡ Some c → Gives (where_fresh (holding held.old) c number line.items (the_call (holding held.old) caller c name.now number line.items with.now)) (holding held.old) held.new result }
+    ensures gives { (c : TheCaller) → caller_at held.old.callers caller ≡ Some c → Gives (where_fresh (holding held.old) c number line.items (the_call (holding held.old) caller c name.now number line.items with.now)) (holding held.old) held.new result }
+    ensures line { HasLine held.new line.items }
 {
     match judge(&held.callers, caller, number, line.as_slice())? {
         Some(reply) => tell(held, reply),
@@ -147,7 +152,8 @@ pub(crate) fn call<G: Ledger>(
     steps: &mut Steps<G>,
 ) -> Result<Answered, NoMemory>
     requires ready { IsReady held.old }
-    ensures { Gives (for_caller (holding held.old) key.now (λ k c. where_fresh (holding held.old) c number (request_line request.now) (the_call (holding held.old) k c name.now number (request_line request.now) with.now))) (holding held.old) held.new result }
+    ensures gives { Gives (for_caller (holding held.old) key.now (λ k c. where_fresh (holding held.old) c number (request_line request.now) (the_call (holding held.old) k c name.now number (request_line request.now) with.now))) (holding held.old) held.new result }
+    ensures line { HasLineOf held.new request.now }
 {
     match held.callers.find_key(key.bytes()) {
         Some(caller) => {

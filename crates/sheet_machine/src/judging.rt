@@ -1,8 +1,9 @@
 // Who asks, and what a request's number comes to.
-ghost use Rattle.std.specs.Prelude.{◌≡◌, Some, IfOk};
+ghost use Rattle.std.specs.Prelude.{◌≡◌, false, Some, IfOk, IfSome};
 ghost use Rattle.sheet_callers.specs.Callers.{Caller as TheCaller, caller_at, IsWithin};
 ghost use Rattle.sheet_callers.specs.Judging.{judged};
 ghost use Rattle.sheet_machine_laws.specs.Act.{who};
+ghost use Rattle.sheet_machine_laws.specs.Step.{is_accepted};
 ghost use Rattle.sheet_machine.specs.Judging.{reply_unless_fresh};
 
 use sheet_callers::{Callers, Judgement};
@@ -44,7 +45,8 @@ pub(crate) fn judge(
     line: &[u8],
 ) -> Result<Option<Reply>, NoMemory>
     requires { IsWithin callers.now caller }
-    ensures { (c : TheCaller) → caller_at callers.now caller ≡ Some c → IfOk result (λ r. r ≡ reply_unless_fresh number (judged c number line.now)) }
+    ensures told { (c : TheCaller) → caller_at callers.now caller ≡ Some c → IfOk result (λ r. r ≡ reply_unless_fresh number (judged c number line.now)) }
+    ensures refused { IfOk result (λ o. IfSome o (λ r. is_accepted r ≡ false)) }
 {
     match callers.judge(caller, number, line) {
         Judgement::Fresh => Ok(None),

@@ -1,7 +1,8 @@
-//! The App in memory: a book with its workbook and its callers, and the answers to requests.
+//! The App: a book with its workbook and its callers, the answers to requests, and the journal of what was accepted.
 #![tactic(auto)]
 
 mod accepting;
+mod acting;
 mod admitting;
 mod answered;
 mod app;
@@ -9,6 +10,7 @@ mod calling;
 mod held;
 mod judging;
 mod looking;
+mod recording;
 mod starting;
 
 pub use answered::Answered;

@@ -1,5 +1,5 @@
 // Looks at views, and the four counts.
-ghost use Rattle.std.specs.Prelude.{◌≡◌, ◌<◌, [], length, slice_get, Some};
+ghost use Rattle.std.specs.Prelude.{◌≡◌, ◌<◌, ℕ, List, [], length, slice_get, Some, None};
 ghost use Rattle.sheet_books.specs.declared.body.View.{View as TheView};
 ghost use Rattle.sheet_machine_laws.specs.Act.{by_page, page_of, who as who_is, see as the_see, counts};
 ghost use Rattle.sheet_machine_laws.specs.Judging.{for_caller, for_operator, with_arguments};
@@ -25,8 +25,10 @@ fn show<G: Ledger>(
     steps: &mut Steps<G>,
 ) -> Result<Answered, NoMemory>
     requires settled { held.old.engine.state.earlier ≡ [] }
+    requires none { held.old.pending ≡ None }
     requires counted { view < length held.old.engine.book.views }
-    ensures { (v : TheView) → slice_get held.old.engine.book.views view ≡ Some v → Gives (by_page (holding held.old) v who with.now (λ parts. replies.Page parts) (page_of (holding held.old) v who with.now)) (holding held.old) held.new result }
+    ensures gives { (v : TheView) → slice_get held.old.engine.book.views view ≡ Some v → Gives (by_page (holding held.old) v who with.now (λ parts. replies.Page parts) (page_of (holding held.old) v who with.now)) (holding held.old) held.new result }
+    ensures none { held.new.pending ≡ None }
 {
     match page(
         held.alloc,
@@ -53,8 +55,10 @@ fn see_found<G: Ledger>(
     steps: &mut Steps<G>,
 ) -> Result<Answered, NoMemory>
     requires settled { held.old.engine.state.earlier ≡ [] }
+    requires none { held.old.pending ≡ None }
     requires counted { view < length held.old.engine.book.views }
-    ensures { (v : TheView) → slice_get held.old.engine.book.views view ≡ Some v → Gives (with_arguments (holding held.old) v.parameters with.now (by_page (holding held.old) v who with.now (λ parts. replies.Page parts) (page_of (holding held.old) v who with.now))) (holding held.old) held.new result }
+    ensures gives { (v : TheView) → slice_get held.old.engine.book.views view ≡ Some v → Gives (with_arguments (holding held.old) v.parameters with.now (by_page (holding held.old) v who with.now (λ parts. replies.Page parts) (page_of (holding held.old) v who with.now))) (holding held.old) held.new result }
+    ensures none { held.new.pending ≡ None }
 {
     match bad_view_argument(&held.engine, view, with) {
         Some(bad) => refuse(held, Refusal::BadArgument(bad)),
@@ -70,8 +74,10 @@ fn see_named<G: Ledger>(
     with: &Values,
     steps: &mut Steps<G>,
 ) -> Result<Answered, NoMemory>
-    requires { held.old.engine.state.earlier ≡ [] }
-    ensures { Gives (the_see (holding held.old) who name.now with.now) (holding held.old) held.new result }
+    requires settled { held.old.engine.state.earlier ≡ [] }
+    requires none { held.old.pending ≡ None }
+    ensures gives { Gives (the_see (holding held.old) who name.now with.now) (holding held.old) held.new result }
+    ensures none { held.new.pending ≡ None }
 {
     match held.engine.book().view_named(name.bytes()) {
         Some(view) => see_found(held, view, who, with, steps),
@@ -87,8 +93,10 @@ pub(crate) fn see<G: Ledger>(
     with: &Values,
     steps: &mut Steps<G>,
 ) -> Result<Answered, NoMemory>
-    requires { held.old.engine.state.earlier ≡ [] }
-    ensures { Gives (for_caller (holding held.old) key.now (λ k c. the_see (holding held.old) (who_is k c) name.now with.now)) (holding held.old) held.new result }
+    requires settled { held.old.engine.state.earlier ≡ [] }
+    requires none { held.old.pending ≡ None }
+    ensures gives { Gives (for_caller (holding held.old) key.now (λ k c. the_see (holding held.old) (who_is k c) name.now with.now)) (holding held.old) held.new result }
+    ensures none { held.new.pending ≡ None }
 {
     match held.callers.find_key(key.bytes()) {
         Some(caller) => {
@@ -101,7 +109,8 @@ pub(crate) fn see<G: Ledger>(
 
 // How many requests were accepted, callers there are, results are kept between requests, which are none yet, and objects are live.
 fn count(held: &Held) -> Result<Answered, NoMemory>
-    requires { held.now.engine.state.earlier ≡ [] }
+    requires settled { held.now.engine.state.earlier ≡ [] }
+    requires none { held.now.pending ≡ None }
     ensures { Gives (holding held.now, counts (holding held.now)) (holding held.now) held.now result }
 {
     let counts = Reply::Stats {
@@ -115,7 +124,8 @@ fn count(held: &Held) -> Result<Answered, NoMemory>
 
 /// The four counts, for the operator alone.
 pub(crate) fn stats(held: &Held, key: &Name) -> Result<Answered, NoMemory>
-    requires { held.now.engine.state.earlier ≡ [] }
+    requires settled { held.now.engine.state.earlier ≡ [] }
+    requires none { held.now.pending ≡ None }
     ensures { Gives (for_operator (holding held.now) key.now (λ c. (holding held.now, counts (holding held.now)))) (holding held.now) held.now result }
 {
     match held.callers.find_key(key.bytes()) {

@@ -52,6 +52,7 @@ fn begin(alloc: Global, operator_key: Name, book: Book) -> Result<Held, NoMemory
         engine,
         callers,
         accepted: 0,
+        pending: None,
         alloc,
     })
 }

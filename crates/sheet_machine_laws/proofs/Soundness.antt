@@ -115,7 +115,7 @@ accepted_sound old new (suc j) c n line given was is same at next short fits =
       few = omega (arith, less);
     })
 
-all_got : {A : Type 0} (P : A → Type 0) (xs : List A) (i : ℕ) (x : A) → AllByRecursion P xs → slice_get xs i ≡ Some x → P x
+pub all_got : {A : Type 0} (P : A → Type 0) (xs : List A) (i : ℕ) (x : A) → AllByRecursion P xs → slice_get xs i ≡ Some x → P x
 all_got P [] i x h e = cc
 all_got P (y ∷ ys) zero x h e = let same : y ≡ x = cc in subst P same h.0
 all_got P (y ∷ ys) (suc i) x h e = all_got P ys i x h.1 e

@@ -8,3 +8,4 @@ pub mod Sound
 pub mod Ranges
 pub mod Staying
 pub mod Worked
+pub mod Leading

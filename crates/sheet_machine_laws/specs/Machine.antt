@@ -7,7 +7,6 @@ use Rattle.sheet_meaning.specs.declared.workbook.State.{State}
 use Rattle.sheet_meaning.specs.declared.workbook.Workbook.{Workbook}
 use Rattle.sheet_books.specs.declared.book.Contents.{Contents}
 use Rattle.sheet_books.specs.Schemas.{schema_of}
-use Rattle.sheet_requests.specs.declared.request.Request.{Request}
 use Rattle.sheet_callers.specs.Callers.{Caller, operator}
 
 -- what is held: the book, the objects and stored sets, the callers with their kept requests, how many requests were accepted, and the
@@ -19,9 +18,9 @@ pub record Holding : Type 0 where
   pub accepted : ℕ
   pub kept : List Cell
 
--- a request whose record may or may not be in the journal, and what is held where it is
+-- the line of a request whose record may or may not be in the journal, and what is held where it is
 pub record Doubt : Type 0 where
-  pub request : Request
+  pub line : List ℕ
   pub held : Holding
 
 -- what is held, and perhaps a request in doubt; without a journal there is never one

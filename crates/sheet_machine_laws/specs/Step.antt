@@ -1,5 +1,6 @@
 -- Steps of the machine, and whole runs. Want of memory, and a disk that fails, are choices of the machine.
-use Rattle.std.specs.Prelude.{◌≡◌, List, [], ◌∷◌, ◌++◌, Bool, true, false, Some}
+use Rattle.std.specs.Prelude.{◌≡◌, ℕ, List, [], ◌∷◌, ◌++◌, Bool, true, false, Some}
+use Rattle.sheet_requests.specs.Lines.{request_line}
 use Rattle.sheet_requests.specs.declared.request.Request.{Request}
 use Rattle.sheet_requests.specs.declared.reply.Reply.{Reply}
 use Rattle.sheet_requests.specs.declared.reply.Reply.TheVariants as reply
@@ -17,20 +18,21 @@ is_accepted (reply.Stats accepted callers kept objects) = false
 is_accepted (reply.Wire refusal) = false
 is_accepted (reply.Refused refusal) = false
 
--- what is to be known of the journal: a request was taken, so its record is there, or it came into doubt, and its record may be there
+-- what is to be known of the journal: the request of a line was taken, so its record is there, or it came into doubt, and its record may
+-- be there
 pub data Event : Type 0 where
-  Took : Request → Event
-  Doubted : Request → Event
+  Took : List ℕ → Event
+  Doubted : List ℕ → Event
 
--- the requests that were taken, in order
-abbrev pub taken : List Event → List Request
+-- the lines that were taken, in order
+abbrev pub taken : List Event → List (List ℕ)
 taken [] = []
-taken (Took q ∷ events) = q ∷ taken events
-taken (Doubted q ∷ events) = taken events
+taken (Took line ∷ events) = line ∷ taken events
+taken (Doubted line ∷ events) = taken events
 
--- a request that is taken, or none
+-- the line of a request that is taken, or none
 abbrev took_if : Request → Bool → List Event
-took_if q true = Took q ∷ []
+took_if q true = Took (request_line q) ∷ []
 took_if q false = []
 
 -- an accepted request is taken
@@ -42,12 +44,13 @@ pub data Acts (h : Holding) (q : Request) : Reply → List Event → Machine →
   acts : Acts h q (act h q).1 (took q (act h q).1) (sure (act h q).0)
   no_memory : Acts h q (reply.Refused NoMemory) [] (sure h)
   disk_fault : is_accepted (act h q).1 ≡ true
-      → Acts h q (reply.Refused DiskFault) (Doubted q ∷ []) (record { held = h; doubt = Some (record { request = q; held = (act h q).0 }) })
+      → Acts h q (reply.Refused DiskFault) (Doubted (request_line q) ∷ [])
+      (record { held = h; doubt = Some (record { line = request_line q; held = (act h q).0 }) })
 
 -- what was in doubt is settled: its record is in the journal, or it isn't
 pub data Settles : Machine → List Event → Holding → Type 0 where
   nothing : (h : Holding) → Settles (sure h) [] h
-  in_journal : (h : Holding) (d : Doubt) → Settles (record { held = h; doubt = Some d }) (Took d.request ∷ []) d.held
+  in_journal : (h : Holding) (d : Doubt) → Settles (record { held = h; doubt = Some d }) (Took d.line ∷ []) d.held
   not_there : (h : Holding) (d : Doubt) → Settles (record { held = h; doubt = Some d }) [] h
 
 -- the replies where what is in doubt can't be settled

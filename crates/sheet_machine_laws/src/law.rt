@@ -1,11 +1,16 @@
 // Laws of the machine.
 ghost use Rattle.sheet_machine_laws.specs.Staying.{SoundStays, StartsAreSound};
-ghost use Rattle.sheet_machine_laws.specs.Unchanged.{OnlyAcceptedChange};
+ghost use Rattle.sheet_machine_laws.specs.Unchanged.{OnlyAcceptedChange, OnlyDisksFault};
 ghost use Rattle.sheet_machine_laws.specs.Worked.{WorkedNumbers};
 
 /// A request that isn't accepted leaves the book, the workbook, the callers and the count of accepted requests as they are.
 pub fn only_accepted_change()
     ensures { OnlyAcceptedChange }
+{}
+
+/// No request comes to a fault of the disk by itself.
+pub fn only_disks_fault()
+    ensures { OnlyDisksFault }
 {}
 
 /// What is held at the start of a well-typed book is sound: a well-formed and filled workbook, and the operator.

@@ -3,4 +3,6 @@
 
 mod law;
 
-pub use law::{only_accepted_change, sound_stays, starts_are_sound, worked_numbers};
+pub use law::{
+    only_accepted_change, only_disks_fault, sound_stays, starts_are_sound, worked_numbers,
+};

@@ -35,6 +35,7 @@ lines-preserved g c =
           c.lines.invariant.counts c.answer_line.ensures.counts;
       source = omega (arith, c.lines.invariant.source, c.answer_line.ensures.later_source);
       sink = omega (arith, c.lines.invariant.sink, c.answer_line.ensures.later_sink);
+      still = c.answer_line.ensures.still ∙ c.lines.invariant.still;
     }
 
 pub returns-clause-done : goal.returns-clause-done

@@ -13,6 +13,7 @@ invariant-lines g l = record {
       (rest l.reader (g.S.Source.left l.input));
   source : g.S.Source.faults l.fn.input ≤ g.S.Source.faults l.input;
   sink : g.K.Sink.faults l.fn.output ≤ g.K.Sink.faults l.output;
+  still : l.disk ≡ l.fn.disk;
 }
 
 abbrev pub decreases-lines : goal.decreases-lines

@@ -26,8 +26,8 @@ returns-clause-replied g c =
     on_ok c.write_line-2.result _ _ c.write_line-2.ensures.ok
     (λ gains. replied c.args.session.now answered.new.self c.args.request.now (body c.args.session.now.book.columns answered.result.reply) c.body_of.result.now
     (g.K.Sink.written c.args.output.now) (g.K.Sink.written c.write_line-2.new.output)
-    (some_bytes c.args.request.now (sym c.is_empty.ensures ∙ c.if-is_empty.false)) answered.ensures.0
-    (c.body_of.ensures c.args.session.now answered.ensures.1) gains)
+    (some_bytes c.args.request.now (sym c.is_empty.ensures ∙ c.if-is_empty.false)) answered.ensures.answered.0
+    (c.body_of.ensures c.args.session.now answered.ensures.answered.1) gains)
 
 pub returns-clause-broken : goal.returns-clause-broken
 returns-clause-broken g c =
@@ -35,5 +35,5 @@ returns-clause-broken g c =
     on_err c.write_line-2.result _ _ c.write_line-2.ensures.err
     (λ gains. replied_in_part c.args.session.now answered.new.self c.args.request.now (body c.args.session.now.book.columns answered.result.reply)
     c.body_of.result.now (g.K.Sink.written c.args.output.now) (g.K.Sink.written c.write_line-2.new.output)
-    (some_bytes c.args.request.now (sym c.is_empty.ensures ∙ c.if-is_empty.false)) answered.ensures.0
-    (c.body_of.ensures c.args.session.now answered.ensures.1) gains)
+    (some_bytes c.args.request.now (sym c.is_empty.ensures ∙ c.if-is_empty.false)) answered.ensures.answered.0
+    (c.body_of.ensures c.args.session.now answered.ensures.answered.1) gains)

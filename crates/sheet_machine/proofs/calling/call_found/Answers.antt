@@ -9,8 +9,8 @@ use Rattle.sheet_books.specs.declared.book.Contents.{Contents}
 use Rattle.sheet_meaning.specs.Arguments.{bad_argument}
 use Rattle.sheet_machine.proofs.calling.call_found.Goals as goal
 
-pub returns-in-None : goal.returns-in-None
-returns-in-None g c d p at is =
+pub returns-in-None-clause-gives : goal.returns-in-None-clause-gives
+returns-in-None-clause-gives g c d p at is =
     let h = holding c.args.held.now in
     let same : c.procedure.result.now ≡ p =
     let f : Some c.procedure.result.now ≡ Some p =
@@ -18,4 +18,4 @@ returns-in-None g c d p at is =
     let good = sym (c.in-None.ensures ∙ ap (λ (q : Procedure). bad_argument h.state q.parameters c.args.with.now) same) in
     subst
     (λ o. Gives (where_good h (by_run h c.args.caller c.args.number c.args.line.items (run_of h p (who c.args.caller d) c.args.with.now)) o) h c.run.new.held c.run.result)
-    (sym good) (c.run.ensures d p at is)
+    (sym good) (c.run.ensures.gives d p at is)

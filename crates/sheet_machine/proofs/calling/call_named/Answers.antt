@@ -8,11 +8,11 @@ use Rattle.sheet_machine.specs.Held.{holding}
 use Rattle.sheet_machine.proofs.Finding.{found_procedure}
 use Rattle.sheet_machine.proofs.calling.call_named.Goals as goal
 
-pub returns-in-Some : goal.returns-in-Some
-returns-in-Some g c d at =
+pub returns-in-Some-clause-gives : goal.returns-in-Some-clause-gives
+returns-in-Some-clause-gives g c d at =
     let h = holding c.args.held.now in
     let P : Acted → Type 0 = λ a. Gives a h c.call_found.new.held c.call_found.result in
     found_procedure h c.args.with.now
     (λ (p : Procedure). by_run h c.args.caller c.args.number c.args.line.items (run_of h p (who c.args.caller d) c.args.with.now)) c.args.name.now c.in-Some.procedure P
     (ap (procedure_with_name h.book) (sym c.bytes.ensures.bytes) ∙ ap (λ b. procedure_with_name b c.bytes.result.now) (sym c.book.ensures) ∙ sym c.in-Some.ensures)
-    (λ p is. c.call_found.ensures d p at is)
+    (λ p is. c.call_found.ensures.gives d p at is)

@@ -20,8 +20,8 @@ use Rattle.sheet_machine.proofs.Ending.{first_is, ends_too, refusal_too, run_is}
 use Rattle.sheet_machine.proofs.KeptFree.{runs_alike}
 use Rattle.sheet_machine.proofs.calling.run.Goals as goal
 
-pub returns-in-Ok : goal.returns-in-Ok
-returns-in-Ok g c d p at is =
+pub returns-in-Ok-clause-gives : goal.returns-in-Ok-clause-gives
+returns-in-Ok-clause-gives g c d p at is =
     let old = c.args.held.now in
     let h = holding old in
     let new = c.run_procedure.new.engine in
@@ -34,7 +34,7 @@ returns-in-Ok g c d p at is =
     let first : r p w ≡ Ok a.acts.0 = sym (ap (λ q. r q c.who-who.result) same ∙ ap (r p) (c.who-who.ensures d at)) ∙ a.acts.1 in
     let too = ends_too (r p w) (run_of h p w c.args.with.now) a.acts.0 first
     (runs_alike s p.allow (statements_in p.body) w c.args.with.now old.engine.state.present.state old.engine.kept []) in
-    let mid : Held = record { engine = new; callers = old.callers; accepted = old.accepted; alloc = old.alloc } in
+    let mid : Held = record { engine = new; callers = old.callers; accepted = old.accepted; pending = old.pending; alloc = old.alloc } in
     let mid_is : holding mid ≡ record h { state = a.acts.0.state; kept = [] } =
     ap (λ b. record h { book = b; state = new.state.present.state; kept = [] }) c.in-Ok.ensures.book
     ∙ ap (λ x. record h { state = x; kept = [] }) a.acts.2.state in
@@ -48,10 +48,10 @@ returns-in-Ok g c d p at is =
     let whole = run_is h (holding mid) c.args.caller c.args.number c.args.line.items a.acts.0 c.in-Ok.set (run_of h p w c.args.with.now) too a.acts.2.reply mid_is in
     subst (λ x. Gives (by_run h c.args.caller c.args.number c.args.line.items (run_of h p w c.args.with.now)) x c.accept_run.new.held c.accept_run.result) before_is
     (subst (λ y. Gives y (before_changes mid) c.accept_run.new.held c.accept_run.result)
-    (ap (λ x. accept x (holding mid) c.args.caller c.args.number c.args.line.items (answer.Values c.in-Ok.set)) before_is ∙ whole) c.accept_run.ensures)
+    (ap (λ x. accept x (holding mid) c.args.caller c.args.number c.args.line.items (answer.Values c.in-Ok.set)) before_is ∙ whole) c.accept_run.ensures.gives)
 
-pub returns-in-Err : goal.returns-in-Err
-returns-in-Err g c d p at is =
+pub returns-in-Err-clause-gives : goal.returns-in-Err-clause-gives
+returns-in-Err-clause-gives g c d p at is =
     let old = c.args.held.now in
     let h = holding old in
     let new = c.run_procedure.new.engine in
@@ -65,7 +65,7 @@ returns-in-Err g c d p at is =
     subst (λ (x : Result Point Stop). IsRefusal c.in-Err.refusal x) (ap (λ q. r q c.who-who.result) same ∙ ap (r p) (c.who-who.ensures d at)) a.acts.0 in
     let too = refusal_too c.in-Err.refusal (r p w) (run_of h p w c.args.with.now) first
     (runs_alike s p.allow (statements_in p.body) w c.args.with.now old.engine.state.present.state old.engine.kept []) in
-    let mid : Held = record { engine = new; callers = old.callers; accepted = old.accepted; alloc = old.alloc } in
+    let mid : Held = record { engine = new; callers = old.callers; accepted = old.accepted; pending = old.pending; alloc = old.alloc } in
     let mid_is : holding mid ≡ h =
     ap (λ b. record h { book = b; state = new.state.present.state }) c.in-Err.ensures.book ∙ ap (λ (k : Stored). record h { state = k.present.state }) a.acts.1 in
     subst (λ x. Gives (by_run x c.args.caller c.args.number c.args.line.items (run_of h p w c.args.with.now)) x mid c.refuse_run.result) mid_is
