@@ -11,3 +11,9 @@ pub mod Outcomes
 pub mod Answering
 pub mod Appended
 pub mod Requests
+pub mod Recoveries
+pub mod JournalRecords
+pub mod OperatorKeys
+pub mod TakingRecords
+pub mod Reopening
+pub mod Leftovers

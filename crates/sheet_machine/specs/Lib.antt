@@ -9,3 +9,6 @@ pub mod Recording
 pub mod Becoming
 pub mod Answers
 pub mod StartsFrom
+pub mod Opening
+pub mod OpeningSteps
+pub mod Crashes

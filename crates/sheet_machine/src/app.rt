@@ -1,10 +1,12 @@
 // The App.
-ghost use Rattle.std.specs.Prelude.{◌≡◌, ◌≤◌, None, Some, IsSome, IsTrue};
+ghost use Rattle.std.specs.Prelude.{◌≡◌, ◌≤◌, None, Some, IsSome, IsTrue, IfOk, OnOk};
 ghost use Rattle.sheet_outside.specs.Causes.{Rose};
+ghost use Rattle.sheet_outside.specs.Told.{WhereTold};
 ghost use Rattle.sheet_journal.specs.Journal.{Journal as TheJournal};
 ghost use Rattle.sheet_machine_laws.specs.Ranges.{IsInRange, IsKey};
 ghost use Rattle.sheet_machine.specs.Answers.{AnswersInMemory, AnswersInJournal};
 ghost use Rattle.sheet_machine.specs.Held.{holding, IsReady};
+ghost use Rattle.sheet_machine.specs.Opening.{Reopens, IsRecoveredApp, IsSureApp, IsOpenRefusal, HasOpenCause};
 ghost use Rattle.sheet_machine.specs.Starts.{Starts};
 ghost use Rattle.sheet_machine_laws.specs.Step.{StepInMemory};
 ghost use Rattle.sheet_machine.specs.Told.{told, AsksNoReads};
@@ -14,6 +16,7 @@ ghost use Rattle.sheet_requests.specs.declared.reply.Reply.TheVariants.{Refused}
 use crate::acting::act;
 use crate::answered::{Answered, starved};
 use crate::held::Held;
+use crate::opening::{OpenRefusal, Opened, recover};
 use crate::recording::answer_recorded;
 use crate::starting::{StartRefusal, started};
 use sheet_callers::Callers;
@@ -89,6 +92,32 @@ impl App {
             Ok(held) => Ok(App {
                 held,
                 journal: None,
+            }),
+            Err(refusal) => Err(refusal),
+        }
+    }
+
+    /// The workbook after the records of the journal of this name, which goes on behind them: nothing is in doubt.
+    ///
+    /// `Journal` where the disk failed; where there is no such file, or it is no journal (`NotAJournal`, with its length); and where
+    /// all whole records are good and the one behind them isn't whole (`TornLayout`, with its place). `Damaged` with the number of the
+    /// first record, from 1, that can't be read or isn't accepted at its place. What is read of the file stays, and so do the others.
+    pub fn open<D: Disk, G: Ledger>(
+        alloc: Global,
+        disk: &mut D,
+        name: &[u8],
+        steps: &mut Steps<G>,
+    ) -> Result<App, OpenRefusal>
+        ensures sure { IfOk result IsSureApp }
+        ensures open { OnOk result (IsTrue (D.is_open disk.new)) }
+        ensures file { WhereTold (Reopens IsRecoveredApp name.now result) (D.told disk.old) (D.told disk.new) }
+        ensures refusal { IsOpenRefusal result }
+        ensures cause { HasOpenCause (D.faults disk.old) (D.faults disk.new) result }
+    {
+        match recover(alloc, disk, name, steps) {
+            Ok(Opened { held, journal }) => Ok(App {
+                held,
+                journal: Some(journal),
             }),
             Err(refusal) => Err(refusal),
         }
